@@ -1,0 +1,5 @@
+pub mod Spelling
+pub mod Rising
+pub mod Decoding
+pub mod Same
+pub mod Replacing

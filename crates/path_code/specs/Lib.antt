@@ -1,0 +1,4 @@
+pub mod Codes
+pub mod Ways
+pub mod Laws
+pub mod Moves

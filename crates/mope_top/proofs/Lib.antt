@@ -1,0 +1,13 @@
+pub mod DecimalFront
+pub mod StrippedFront
+pub mod FirstFormLines
+pub mod FirstFormLaws
+pub mod WordLemmas
+pub mod FirstRunLemmas
+pub mod SerialLemmas
+mod BatchLemmas
+pub mod ReportLines
+pub mod WalkLemmas
+pub mod RowLemmas
+pub mod ItemLemmas
+pub mod ReplayLemmas

@@ -1,0 +1,7 @@
+pub mod FirstForm
+pub mod FirstRun
+pub mod Words
+pub mod Batch
+pub mod FirstReport
+pub mod SealedItems
+pub mod SealedServer

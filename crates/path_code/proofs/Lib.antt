@@ -3,3 +3,6 @@ pub mod Rising
 pub mod Decoding
 pub mod Same
 pub mod Replacing
+pub mod Sums
+pub mod Increasing
+pub mod BlindSums

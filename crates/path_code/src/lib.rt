@@ -5,6 +5,7 @@ mod codes;
 pub mod laws;
 mod moves;
 mod paths;
+pub mod sum_laws;
 
 pub use codes::{child, code, root};
 pub use moves::{Move, Recode, move_enc, path_of};

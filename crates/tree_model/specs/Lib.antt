@@ -1,4 +1,11 @@
 pub mod Trees
 pub mod Places
 pub mod Items
+pub mod Balance
+pub mod Insertion
+pub mod Removal
+pub mod Columns
+pub mod Sums
+pub mod ColumnLaws
+pub mod Parts
 pub mod Laws

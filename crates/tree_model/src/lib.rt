@@ -1,7 +1,9 @@
 //! What the server's search trees are and how a place in one is told: definitions and laws on which the crates above stand.
 #![tactic(auto)]
 
+pub mod column_laws;
 pub mod laws;
+pub mod part_laws;
 
 /// One step down a binary search tree, to the subtree of the smaller or of the greater items.
 #[derive(Clone, Copy, PartialEq, Eq, Debug)]

@@ -1,0 +1,20 @@
+use Rattle.std.proofs.Common.{refl, Bool, true, false}
+use Rattle.tree_model.specs.Trees.{inorder, size, map_tree, side_by, gap_side, turn_at, past, onward, path, rooted, halved, balanced}
+use Rattle.tree_model.specs.Items.{new_item, one_more, one_less, has_rows, live_items, live, is_dead, is_sparse}
+use Rattle.tree_model.specs.Balance.{may_stand, climbed, climb, limit, is_heavy, counted, nearest_heavy}
+use Rattle.tree_model.specs.Insertion.{child, with_child, tree_at, put_at, sizes_along, graft, balanced_at, scapegoat_way, settled, insert_tree}
+use Rattle.tree_model.specs.Removal.{by_side, change_tree, first_or, without_first, joined, remove_tree}
+use Rattle.tree_model.specs.Columns.{empty_column, items_of, whole, add, taken_out, shrunk, pruned, fewer, drop_one, lay, apply, apply_all, map_operation}
+use Rattle.tree_model.specs.Sums.{bodies, tag, tagged, tagged_column, blank, origins}
+use Rattle.path_code.specs.Codes.{bit, spelled, code_within, code_of}
+use Rattle.path_code.specs.Sums.{item_code, unless, moved_codes, added_codes, is_origin, dropped_codes, sum_by_origins, sum_of}
+use Rattle.path_code.specs.SumLaws.{DropsLast}
+use Rattle.path_code.proofs.sum_laws.drop_last_duplicate.Goals as goal
+
+in_mode : (same_time : Bool) → DropsLast same_time
+unfolding inorder size map_tree side_by gap_side turn_at past onward path rooted halved balanced new_item one_more one_less has_rows live_items live is_dead is_sparse may_stand climbed climb limit is_heavy counted nearest_heavy child with_child tree_at put_at sizes_along graft balanced_at scapegoat_way settled insert_tree by_side change_tree first_or without_first joined remove_tree empty_column items_of whole add taken_out shrunk pruned fewer drop_one lay apply apply_all map_operation bodies tag tagged tagged_column blank origins bit spelled code_within code_of item_code unless moved_codes added_codes is_origin dropped_codes sum_by_origins sum_of
+in_mode true = record { sum = refl; column = refl }
+in_mode false = record { sum = refl; column = refl }
+
+pub returns : goal.returns
+returns c same_time = in_mode same_time

@@ -1,0 +1,13 @@
+pub mod AskedParts
+pub mod Cuts
+pub mod FirstWrong
+pub mod RowsFit
+pub mod Lists
+pub mod FaultlessBytes
+pub mod ShapesOf
+pub mod Fitting
+pub mod QueryParts
+pub mod RulesOf
+pub mod SpelledBytes
+pub mod ReadBack
+pub mod WireLaws

@@ -5,4 +5,5 @@ pub mod Transaction
 pub mod Run
 pub mod History
 pub mod Report
+pub mod Validity
 pub mod Examples

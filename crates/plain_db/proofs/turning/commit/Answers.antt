@@ -1,0 +1,12 @@
+use Rattle.std.proofs.Common.{◌≡◌, ◌∙◌, ap, sym, Some}
+use Rattle.plain_db.specs.Running.{committed_state, newer_in}
+use Rattle.plain_db.proofs.turning.commit.Goals as goal
+
+pub returns-in-Some : goal.returns-in-Some
+unfolding committed_state
+returns-in-Some c = λ acts ops.
+    let found : newer_in 0 c.args.state.now.written c.args.base c.args.work.touched ≡ Some (c.in-Some.t, c.in-Some.number) =
+    ap (λ l. newer_in 0 l c.args.base c.args.work.touched) (sym c.as_slice.ensures)
+    ∙ ap (λ l. newer_in 0 c.as_slice.result.now c.args.base l) (sym c.as_slice-2.ensures)
+    ∙ sym c.newer_than.ensures ∙ c.in-Some.is in
+    rw found c.end_txn.ensures

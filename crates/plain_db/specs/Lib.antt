@@ -1,0 +1,7 @@
+pub mod Laws
+pub mod Positions
+pub mod Answerable
+pub mod Trying
+pub mod Running
+pub mod Turned
+pub mod Reached

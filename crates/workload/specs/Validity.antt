@@ -1,0 +1,73 @@
+-- When a workload is valid: what its file's reader lets through, and the limits. The rules are our own.
+use Rattle.std.specs.Prelude.{◌≡◌, ℕ, ◌^◌, ◌<◌, ◌≤◌, Bool, List, [], ◌∷◌, map, length, get_or, Option, Some, None}
+use Rattle.mope_base.specs.declared.numbers.TableNo.{TableNo}
+use Rattle.mope_base.specs.declared.numbers.ColNo.{ColNo}
+use Rattle.sql_text.specs.declared.Name.{Name}
+use Rattle.sql_text.specs.declared.Test.{Test}
+use Rattle.workload.specs.declared.script.Act.{Act}
+use Rattle.workload.specs.declared.script.Act.TheVariants as act
+use Rattle.workload.specs.declared.script.Decl.{Decl}
+use Rattle.workload.specs.declared.script.Piece.{Piece}
+use Rattle.workload.specs.declared.script.Piece.TheVariants as piece
+use Rattle.workload.specs.declared.script.Verb.{Verb}
+use Rattle.workload.specs.declared.script.Verb.TheVariants as verb
+use Rattle.workload.specs.declared.script.Workload.{Workload}
+
+-- each element of a list
+unfoldable pub Each : {A : Type 0} → (A → Type 0) → List A → Type 0
+Each P [] = Unit {0}
+Each P (x ∷ xs) = P x × Each P xs
+
+-- no name stands twice
+unfoldable pub AreDistinct : List Name → Type 0
+AreDistinct [] = Unit {0}
+AreDistinct (name ∷ names) = Each (λ (other : Name). other ≡ name → ⊥) names × AreDistinct names
+
+-- a table has 1 to 8 columns, whose names differ
+pub record IsValidDecl (d : Decl) : Type 0 where
+  pub some_column : 0 < length d.columns
+  pub few_columns : length d.columns ≤ 8
+  pub distinct : AreDistinct d.columns
+
+-- how many columns a table has; one that isn't declared has none
+unfoldable pub column_count : List Decl → TableNo → ℕ
+column_count tables t = get_or (map (λ (d : Decl). length d.columns) tables) t.0 0
+
+-- a column of a table
+abbrev pub IsColumn : List Decl → TableNo → ColNo → Type 0
+IsColumn tables t c = c.0 < column_count tables t
+
+abbrev pub IsOrderColumn : List Decl → TableNo → Option (ColNo × Bool) → Type 0
+IsOrderColumn tables t None = Unit {0}
+IsOrderColumn tables t (Some order) = IsColumn tables t order.0
+
+-- a SELECT lists 1 to 8 columns
+abbrev pub IsValidVerb : List Decl → TableNo → Verb → Type 0
+IsValidVerb tables t (verb.Rows columns order limit) =
+    (0 < length columns) × (length columns ≤ 8) × Each (IsColumn tables t) columns × IsOrderColumn tables t order
+IsValidVerb tables t verb.Count = Unit {0}
+IsValidVerb tables t (verb.Min column) = IsColumn tables t column
+IsValidVerb tables t (verb.Max column) = IsColumn tables t column
+IsValidVerb tables t verb.Delete = Unit {0}
+
+-- a statement names a declared table and columns of it; it has at most 8 conditions, and an INSERT a value per column
+abbrev pub IsValidAct : List Decl → Act → Type 0
+IsValidAct tables (act.Insert t values) = (t.0 < length tables) × (length values ≡ column_count tables t)
+IsValidAct tables (act.Ask ask) =
+    (ask.table.0 < length tables) × (length ask.tests ≤ 8) × Each (λ (test : ColNo × Test). IsColumn tables ask.table test.0) ask.tests
+    × IsValidVerb tables ask.table ask.verb
+
+abbrev pub IsValidPiece : List Decl → Piece → Type 0
+IsValidPiece tables (piece.Txn statements rollback) = Each (IsValidAct tables) statements × (length statements < 2 ^ 32)
+IsValidPiece tables (piece.Rebuild t column) = (t.0 < length tables) × IsColumn tables t column
+
+abbrev pub IsValidScript : List Decl → List Piece → Type 0
+IsValidScript tables pieces = Each (IsValidPiece tables) pieces × (length pieces < 2 ^ 32)
+
+-- at most 16 tables, whose names differ, and at most 64 sessions
+pub record IsValid (w : Workload) : Type 0 where
+  pub few_tables : length w.tables ≤ 16
+  pub tables : Each IsValidDecl w.tables
+  pub distinct : AreDistinct (map (λ (d : Decl). d.name) w.tables)
+  pub few_sessions : length w.sessions ≤ 64
+  pub scripts : Each (IsValidScript w.tables) w.sessions

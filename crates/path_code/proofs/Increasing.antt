@@ -14,7 +14,7 @@ use Rattle.path_code.specs.Sums.{item_code, unless, moved_codes, added_codes, is
 use Rattle.path_code.specs.SumLaws.{Increase}
 use Rattle.path_code.proofs.Rising.{codes_rise}
 
-item_code-lt : {A : Type 0} (t : Tree A) (j k : ℕ) → height t ≤ 63 → j < k → k < size t → item_code t j < item_code t k
+pub item_code-lt : {A : Type 0} (t : Tree A) (j k : ℕ) → height t ≤ 63 → j < k → k < size t → item_code t j < item_code t k
 unfolding item_code code_of number
 item_code-lt t j k high lt within = codes_rise 63 t (Found j) (Found k) high (omega arith) (omega arith)
 

@@ -23,35 +23,35 @@ below_nothing : (v : ℕ) → IsBelowAll v []
 unfolding IsBelowAll
 below_nothing v = tt
 
-below-none : (v : ℕ) (xs : List ℕ) → IsBelowAll v xs → below v xs ≡ 0
+pub below-none : (v : ℕ) (xs : List ℕ) → IsBelowAll v xs → below v xs ≡ 0
 unfolding IsBelowAll below one_if
 below-none v [] h = refl
 below-none v (x ∷ xs) h = let e : ltb x v ≡ false = le-ltb x v (omega arith) in rw e (below-none v xs h.1)
 
-holds-none : (v : ℕ) (xs : List ℕ) → IsBelowAll v xs → holds v xs ≡ false
+pub holds-none : (v : ℕ) (xs : List ℕ) → IsBelowAll v xs → holds v xs ≡ false
 unfolding IsBelowAll holds
 holds-none v [] h = refl
 holds-none v (x ∷ xs) h = let e : eqb x v ≡ false = ne_eqb x v (omega arith) in rw e (holds-none v xs h.1)
 
 -- ---- the first item decides
 
-below-cons_lt : (v x : ℕ) (xs : List ℕ) → x < v → below v (x ∷ xs) ≡ suc (below v xs)
+pub below-cons_lt : (v x : ℕ) (xs : List ℕ) → x < v → below v (x ∷ xs) ≡ suc (below v xs)
 unfolding below one_if
 below-cons_lt v x xs h = rw (lt-ltb x v h) refl
 
-below-cons_le : (v x : ℕ) (xs : List ℕ) → v ≤ x → IsBelowAll x xs → below v (x ∷ xs) ≡ 0
+pub below-cons_le : (v x : ℕ) (xs : List ℕ) → v ≤ x → IsBelowAll x xs → below v (x ∷ xs) ≡ 0
 unfolding below one_if
 below-cons_le v x xs h above = rw (le-ltb x v h) (below-none v xs (IsBelowAll-le x v xs h above))
 
-holds-cons_ne : (v x : ℕ) (xs : List ℕ) → x ≢ v → holds v (x ∷ xs) ≡ holds v xs
+pub holds-cons_ne : (v x : ℕ) (xs : List ℕ) → x ≢ v → holds v (x ∷ xs) ≡ holds v xs
 unfolding holds
 holds-cons_ne v x xs h = rw (ne_eqb x v h) refl
 
-holds-cons_eq : (v x : ℕ) (xs : List ℕ) → x ≡ v → holds v (x ∷ xs) ≡ true
+pub holds-cons_eq : (v x : ℕ) (xs : List ℕ) → x ≡ v → holds v (x ∷ xs) ≡ true
 unfolding holds
 holds-cons_eq v x xs h = rw (eq-eqb x v h) refl
 
-holds-cons_lt : (v x : ℕ) (xs : List ℕ) → v < x → IsBelowAll x xs → holds v (x ∷ xs) ≡ false
+pub holds-cons_lt : (v x : ℕ) (xs : List ℕ) → v < x → IsBelowAll x xs → holds v (x ∷ xs) ≡ false
 holds-cons_lt v x xs h above = holds-cons_ne v x xs (omega arith) ∙ holds-none v xs (IsBelowAll-le x v xs (omega arith) above)
 
 -- ---- how many are below
@@ -210,7 +210,7 @@ IsPlaceOf-place xs v up =
 
 -- ---- a new value at its gap
 
-IsBelowAll-insert : (w : ℕ) (xs : List ℕ) (i v : ℕ) → w < v → IsBelowAll w xs → IsBelowAll w (insert xs i v)
+pub IsBelowAll-insert : (w : ℕ) (xs : List ℕ) (i v : ℕ) → w < v → IsBelowAll w xs → IsBelowAll w (insert xs i v)
 unfolding IsBelowAll
 IsBelowAll-insert w xs zero v lt h = (lt, h)
 IsBelowAll-insert w [] (suc i) v lt h = (lt, h)

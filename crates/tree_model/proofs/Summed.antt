@@ -141,7 +141,7 @@ map-tagged_zero {B} first (node l x r) =
     let y : Item ℕ = record { body = zero; count = x.count } in
     ap₂ (λ (t u : Tree (Item ℕ)). node t y u) (map-tagged_zero first l) (map-tagged_zero (suc (first + size l)) r)
 
-map_column-tagged_zero : {B : Type 0} (c : Column B) → map_column (λ (o : Option ℕ). zero) (tagged_column c) ≡ map_column (λ (b : B). zero) c
+pub map_column-tagged_zero : {B : Type 0} (c : Column B) → map_column (λ (o : Option ℕ). zero) (tagged_column c) ≡ map_column (λ (b : B). zero) c
 unfolding map_column tagged_column
 map_column-tagged_zero c = ap (λ (t : Tree _). column t c.most) (map-tagged_zero 0 c.tree)
 

@@ -1,0 +1,12 @@
+pub mod Lists
+pub mod Pairs
+pub mod Rows
+pub mod Images
+pub mod ItemCodes
+pub mod Origins
+pub mod Leading
+pub mod Counts
+pub mod Staying
+pub mod Gaps
+pub mod Sparse
+pub mod After

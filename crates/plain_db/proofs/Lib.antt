@@ -30,3 +30,4 @@ pub mod FitLemmas
 pub mod StateLemmas
 pub mod RunningLemmas
 pub mod HistoryLemmas
+pub mod ConditionLemmas

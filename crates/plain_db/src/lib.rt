@@ -11,6 +11,8 @@ mod running;
 mod selecting;
 mod state;
 mod tables;
+#[cfg(test)]
+mod tests;
 mod trying;
 mod turning;
 

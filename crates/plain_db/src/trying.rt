@@ -21,7 +21,7 @@ pub(crate) struct Tried {
     pub touched: Items<TableNo>,
 }
 
-fn table_of_act(act: &Act) -> TableNo
+pub(crate) fn table_of_act(act: &Act) -> TableNo
     ensures { result ≡ table_named act.now }
 {
     match act {

@@ -19,6 +19,7 @@ pub mod OverLemmas
 pub mod SerialLemmas
 pub mod RowLemmas
 pub mod SelectionLemmas
+pub mod FrontLemmas
 pub mod AnswerLemmas
 pub mod TableLemmas
 pub mod NumberLemmas

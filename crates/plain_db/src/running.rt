@@ -202,5 +202,5 @@ pub fn run_turns(
         taken,
         done,
     } = state;
-    Ok((taken, in_history_order(alloc, done)?))
+    Ok((taken, in_history_order(done)?))
 }

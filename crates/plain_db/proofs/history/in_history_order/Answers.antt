@@ -1,10 +1,13 @@
-use Rattle.plain_db.proofs.HistoryLemmas.{sorting-start, sorting-more}
+use Rattle.std.proofs.Common.{◌∙◌, ap, rules}
+use Rattle.workload.specs.Selection.{ordered}
+use Rattle.workload.specs.History.{comes_before}
+use Rattle.plain_db.proofs.StableLemmas.{ordered-from_sort_by}
+use Rattle.plain_db.proofs.HistoryLemmas.{history-order}
 use Rattle.plain_db.proofs.history.in_history_order.Goals as goal
 
-pub placed-init : goal.placed-init
-placed-init c = sorting-start c.args.done c.into_vec-left.result.items c.new-sorted.result.items c.into_vec-left.ensures c.new-sorted.ensures.items
-
-pub placed-preserved : goal.placed-preserved
-placed-preserved c =
-    sorting-more c.args.done c.placed.left.items c.pop.new.self.items c.placed.sorted.items c.insert.new.self.items c.in-Some.t c.place_of-place.result c.placed.invariant
-    c.in-Some.ensures.items c.in_ok-insert.ensures.items (rw c.deref.ensures.value at c.place_of-place.ensures.place)
+pub returns : goal.returns
+returns c =
+    c.from_vec.ensures
+    ∙ ordered-from_sort_by comes_before history-order c.into_vec-sorted.result.items c.sort_by.new.self.items
+    c.in_ok-sort_by.ensures.sorted c.sort_by.ensures.stable (λ a r next called. search rules)
+    ∙ ap (λ l. ordered comes_before l) c.into_vec-sorted.ensures

@@ -1,7 +1,26 @@
-//! The words of SQL that a workload is written in. So far its types alone: names, and the tests of a condition.
+//! The statements of SQL that a workload is written in: lines as statements, and statements as lines.
 #![tactic(auto)]
 
 use mope_base::Items;
+
+mod arrange_steps;
+mod filter_steps;
+pub mod laws;
+mod letting_go;
+mod lines;
+mod marks;
+mod ninth;
+mod parsing;
+mod printing;
+mod scanning;
+mod statements;
+mod states;
+mod steps;
+mod tokens;
+
+pub use parsing::{ParseStop, Reason, parse};
+pub use printing::print;
+pub use statements::{Cond, Order, Stmt, What};
 
 /// The bytes of the name of a table or a column: a letter, then letters, digits and underscores. Names are
 /// compared byte for byte.
@@ -20,3 +39,6 @@ pub enum Test {
     Ge(u64),
     Between(u64, u64),
 }
+
+#[cfg(test)]
+mod tests;

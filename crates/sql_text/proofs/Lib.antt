@@ -1,0 +1,19 @@
+pub mod Joining
+pub mod Taking
+pub mod AddingMarks
+pub mod AddingWords
+pub mod Running
+pub mod Begun
+pub mod FrontWords
+pub mod Driving
+pub mod Verdicts
+pub mod Sizes
+pub mod Reasons
+pub mod Placing
+mod PrintedPuts
+mod PrintedFront
+mod PrintedTokens
+mod PrintedLines
+mod PrintedBytes
+mod PrintedLexed
+mod PrintedStyles

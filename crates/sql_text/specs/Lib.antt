@@ -1,0 +1,12 @@
+pub mod Words
+pub mod Lexing
+pub mod Grammar
+pub mod Faults
+pub mod Canonical
+pub mod Laws
+pub mod Examples
+pub mod Machine
+pub mod Scans
+pub mod Driven
+pub mod Marked
+pub mod Written

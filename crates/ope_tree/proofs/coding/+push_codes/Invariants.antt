@@ -1,0 +1,5 @@
+use Rattle.ope_tree.specs.Nodes.{reach}
+use Rattle.ope_tree.proofs.coding.+push_codes.Given as goal
+
+abbrev pub decreases-push_codes : goal.decreases-push_codes
+decreases-push_codes l = reach l.link

@@ -1,0 +1,5 @@
+use Rattle.ope_tree.specs.Nodes.{reach}
+use Rattle.ope_tree.proofs.settling.+part_below.Given as goal
+
+abbrev pub decreases-part_below : goal.decreases-part_below
+decreases-part_below l = reach l.part.link

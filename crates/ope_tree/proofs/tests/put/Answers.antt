@@ -1,0 +1,7 @@
+use Rattle.std.proofs.Common.{arith}
+use Rattle.tree_model.specs.Trees.{IsPlaceOf}
+use Rattle.ope_tree.proofs.tests.put.Goals as goal
+
+pub insert_at-requires-clause-is_place : goal.insert_at-requires-clause-is_place
+unfolding IsPlaceOf
+insert_at-requires-clause-is_place c = omega (arith, c.len-len.ensures.value, c.from.ensures)

@@ -1,0 +1,9 @@
+pub mod Nodes
+pub mod Built
+pub mod Listed
+pub mod Seen
+pub mod SweptSum
+pub mod Standing
+pub mod Conditions
+pub mod Walked
+pub mod Settling

@@ -1,0 +1,137 @@
+//! One row fewer at an item.
+ghost use Rattle.ope_tree.specs.Built.{IsBuilt};
+ghost use Rattle.ope_tree.specs.Listed.{count_at};
+ghost use Rattle.ope_tree.specs.Nodes.{IsLink, item_of, tree_of};
+ghost use Rattle.ope_tree.specs.Seen.{IsSound, column_of, empty_seen};
+ghost use Rattle.path_code.specs.Sums.{sum_of};
+ghost use Rattle.std.specs.Prelude.{◌≡◌, ◌+◌, ◌<◌, ◌≤◌, [], ◌∷◌, false, true, IfOk, OnOk, OnErr};
+ghost use Rattle.tree_model.specs.ColumnLaws.{IsKept};
+ghost use Rattle.tree_model.specs.Columns.{Drop, drop_one};
+ghost use Rattle.tree_model.specs.Items.{live, one_less};
+ghost use Rattle.tree_model.specs.Removal.{change_tree};
+ghost use Rattle.tree_model.specs.Trees.{height, inorder, size};
+ghost use Rattle.value_cipher.specs.declared.Body.{Body};
+
+use crate::Tree;
+use crate::arena::Arena;
+use crate::building::{join, size_of};
+use crate::change::Change;
+use crate::copying::compacted;
+use crate::done::Done;
+use crate::nodes::Entry;
+use crate::sweeping::pruned;
+use mope_base::{Mode, OutOfMemory};
+
+/// A tree with one row fewer, and how many of its items, 0 or 1, had their last row then.
+#[derive(Drop)]
+struct Fewer {
+    link: Option<u32>,
+    emptied: u32,
+}
+
+/// The item with one row fewer.
+fn fewer_rows(entry: Entry) -> Entry
+    ensures { item_of result ≡ one_less (item_of entry) }
+{
+    Entry {
+        body: entry.body,
+        count: entry.count.saturating_sub(1),
+    }
+}
+
+/// How many items, 0 or 1, have no row any more where this one has one fewer.
+fn emptied_by(entry: Entry) -> u32
+    ensures { live (item_of entry ∷ []) ≡ live (one_less (item_of entry) ∷ []) + result }
+{
+    if entry.count == 1 { 1 } else { 0 }
+}
+
+/// The tree of a link with one row fewer at the item of a rank.
+fn lowered(nodes: &mut Arena, link: Option<u32>, rank: u32) -> Result<Fewer, OutOfMemory>
+    requires { IsLink nodes.old link }
+    ensures built { IfOk result (λ fewer. IsBuilt nodes.old nodes.new fewer.link (change_tree one_less (tree_of nodes.old link) rank)) }
+    ensures live { IfOk result (λ fewer. live (inorder (tree_of nodes.old link)) ≡ live (inorder (change_tree one_less (tree_of nodes.old link) rank)) + fewer.emptied) }
+{
+    let Some(at) = link else {
+        return Ok(Fewer { link, emptied: 0 });
+    };
+    let node = nodes.get(at);
+    let before = size_of(nodes, node.left);
+    if rank < before {
+        let left = lowered(nodes, node.left, rank)?;
+        let link = join(nodes, left.link, node.entry, node.right)?;
+        return Ok(Fewer {
+            link,
+            emptied: left.emptied,
+        });
+    }
+    if before < rank {
+        let right = lowered(nodes, node.right, rank - before - 1)?;
+        let link = join(nodes, node.left, node.entry, right.link)?;
+        return Ok(Fewer {
+            link,
+            emptied: right.emptied,
+        });
+    }
+    let link = join(nodes, node.left, fewer_rows(node.entry), node.right)?;
+    Ok(Fewer {
+        link,
+        emptied: emptied_by(node.entry),
+    })
+}
+
+/// One row fewer at the item of a rank of the tree of a link.
+fn dropped(
+    nodes: &mut Arena,
+    root: Option<u32>,
+    alive: u32,
+    most: u32,
+    rank: u32,
+) -> Result<Done, OutOfMemory>
+    requires { IsSound nodes.old root alive most false }
+    ensures sound { IfOk result (λ done. IsSound nodes.new done.root done.alive done.most false) }
+    ensures column { IfOk result (λ done. column_of nodes.new done.root done.most ≡ drop_one false rank (column_of nodes.old root most)) }
+    ensures change { IfOk result (λ done. done.change ≡ sum_of false (Drop rank ∷ []) (column_of nodes.old root most)) }
+{
+    let fewer = lowered(nodes, root, rank)?;
+    let done = pruned(nodes, fewer.link, alive - fewer.emptied, most)?;
+    let root = compacted(nodes, done.root)?;
+    Ok(Done {
+        root,
+        alive: done.alive,
+        most: done.most,
+        change: done.change,
+    })
+}
+
+impl Tree {
+    /// One row fewer at the item of a rank, which keeps its place with the count 0 where that was its last. Where so few
+    /// items have rows that 3 * live < 2 * max, the tree becomes the balanced tree of those.
+    ///
+    /// The item must have a row, and the mode must be `Ordinary`. After `OutOfMemory` the tree is spent.
+    pub fn drop_one(&mut self, rank: u32, mode: Mode) -> Result<Change, OutOfMemory>
+        requires is_rank { rank < size self.old.column.tree }
+        requires has_row { 0 < count_at self.old.column rank }
+        requires ordinary { mode ≡ Mode.Ordinary }
+        ensures column { OnOk result (self.new.column ≡ drop_one false rank self.old.column) }
+        ensures change { IfOk result (λ change. change ≡ sum_of false (Drop rank ∷ []) self.old.column) }
+        ensures fresh { OnOk result (self.new.spent ≡ false) }
+        ensures spent { OnErr result (self.new ≡ empty_seen true) }
+        ensures kept { IsKept Body false self.new.column }
+        ensures short { height self.new.column.tree ≤ 63 }
+    {
+        let done = dropped(&mut self.nodes, self.root, self.alive, self.most, rank);
+        match done {
+            Ok(done) => {
+                self.root = done.root;
+                self.alive = done.alive;
+                self.most = done.most;
+                Ok(done.change)
+            }
+            Err(_) => {
+                *self = Tree::gone(self.nodes.allocator());
+                Err(OutOfMemory)
+            }
+        }
+    }
+}

@@ -1,0 +1,66 @@
+//! A new item where a gap was, and one row more of an item.
+ghost use Rattle.ope_tree.specs.Built.{IsBuilt};
+ghost use Rattle.ope_tree.specs.Nodes.{IsLink, item_of, tree_of};
+ghost use Rattle.std.specs.Prelude.{IfOk};
+ghost use Rattle.tree_model.specs.Insertion.{graft};
+ghost use Rattle.tree_model.specs.Removal.{change_tree};
+
+use crate::arena::Arena;
+use crate::building::{join, size_of};
+use crate::nodes::Entry;
+use mope_base::OutOfMemory;
+
+/// The tree of a link with a new item at the gap of a rank.
+pub fn graft(
+    nodes: &mut Arena,
+    link: Option<u32>,
+    rank: u32,
+    entry: Entry,
+) -> Result<Option<u32>, OutOfMemory>
+    requires { IsLink nodes.old link }
+    ensures { IfOk result (λ grafted. IsBuilt nodes.old nodes.new grafted (graft rank (item_of entry) (tree_of nodes.old link))) }
+{
+    let Some(at) = link else {
+        let grafted = join(nodes, None, entry, None)?;
+        return Ok(grafted);
+    };
+    let node = nodes.get(at);
+    let before = size_of(nodes, node.left);
+    if rank <= before {
+        let left = graft(nodes, node.left, rank, entry)?;
+        let grafted = join(nodes, left, node.entry, node.right)?;
+        return Ok(grafted);
+    }
+    let right = graft(nodes, node.right, rank - before - 1, entry)?;
+    let grafted = join(nodes, node.left, node.entry, right)?;
+    Ok(grafted)
+}
+
+/// The tree of a link with another item at a rank in place of the one there.
+pub fn replaced(
+    nodes: &mut Arena,
+    link: Option<u32>,
+    rank: u32,
+    entry: Entry,
+) -> Result<Option<u32>, OutOfMemory>
+    requires { IsLink nodes.old link }
+    ensures { IfOk result (λ changed. IsBuilt nodes.old nodes.new changed (change_tree (λ _. item_of entry) (tree_of nodes.old link) rank)) }
+{
+    let Some(at) = link else {
+        return Ok(None);
+    };
+    let node = nodes.get(at);
+    let before = size_of(nodes, node.left);
+    if rank < before {
+        let left = replaced(nodes, node.left, rank, entry)?;
+        let changed = join(nodes, left, node.entry, node.right)?;
+        return Ok(changed);
+    }
+    if before < rank {
+        let right = replaced(nodes, node.right, rank - before - 1, entry)?;
+        let changed = join(nodes, node.left, node.entry, right)?;
+        return Ok(changed);
+    }
+    let changed = join(nodes, node.left, entry, node.right)?;
+    Ok(changed)
+}

@@ -1,0 +1,226 @@
+//! One row more at a place.
+ghost use Rattle.ope_tree.specs.Conditions.{HasRoom};
+ghost use Rattle.ope_tree.specs.Listed.{count_at};
+ghost use Rattle.ope_tree.specs.Nodes.{item_of, tree_of};
+ghost use Rattle.ope_tree.specs.Seen.{IsSound, column_of, empty_seen};
+ghost use Rattle.path_code.specs.Sums.{sum_of};
+ghost use Rattle.std.specs.Prelude.{◌≡◌, ◌+◌, ◌^◌, ◌<◌, ◌≤◌, [], ◌∷◌, false, true, IfOk, OnOk, OnErr, IsErr};
+ghost use Rattle.tree_model.specs.ColumnLaws.{IsKept};
+ghost use Rattle.tree_model.specs.Columns.{Add, add};
+ghost use Rattle.tree_model.specs.Items.{live, one_more};
+ghost use Rattle.tree_model.specs.Trees.{IsPlaceOf, height, size};
+ghost use Rattle.tree_model.specs.declared.Place.TheVariants.{Found, Gap};
+ghost use Rattle.value_cipher.specs.declared.Body.{Body};
+
+use crate::Tree;
+use crate::arena::Arena;
+use crate::building::size_of;
+use crate::change::Change;
+use crate::copying::compacted;
+use crate::done::Done;
+use crate::grafting::{graft, replaced};
+use crate::nodes::Entry;
+use crate::reading::entry_at;
+use crate::settling::rebalanced;
+use crate::ways::path_to;
+use mope_base::OutOfMemory;
+use path_code::{code, root as root_path};
+use scapegoat::too_deep;
+use std::alloc::Global;
+use tree_model::Place;
+use value_cipher::Body;
+
+/// A change of one new code and nothing else.
+fn added_alone(alloc: Global, code: u64) -> Result<Change, OutOfMemory>
+    ensures { IfOk result (λ change. change ≡ record { moved = []; dropped = []; added = code ∷ [] }) }
+{
+    let mut added = Vec::new(alloc);
+    added.push(code)?;
+    Ok(Change::of(Vec::new(alloc), Vec::new(alloc), added))
+}
+
+/// How many items, 0 or 1, have rows where this one has one more and had none before.
+fn revived_by(entry: Entry) -> u32
+    ensures live { live (one_more (item_of entry) ∷ []) ≡ live (item_of entry ∷ []) + result }
+    ensures few { result ≤ 1 }
+{
+    if entry.count == 0 { 1 } else { 0 }
+}
+
+/// The item with one row more.
+fn more_rows(entry: Entry) -> Entry
+    requires { entry.count + 1 < 2 ^ 32 }
+    ensures { item_of result ≡ one_more (item_of entry) }
+{
+    Entry {
+        body: entry.body,
+        count: entry.count + 1,
+    }
+}
+
+/// One row more of the item of a rank.
+fn raised(
+    nodes: &mut Arena,
+    root: Option<u32>,
+    alive: u32,
+    most: u32,
+    rank: u32,
+) -> Result<Done, OutOfMemory>
+    requires sound { IsSound nodes.old root alive most false }
+    requires is_rank { rank < size (tree_of nodes.old root) }
+    requires few { size (tree_of nodes.old root) < 2 ^ 31 }
+    requires room { count_at (column_of nodes.old root most) rank + 1 < 2 ^ 32 }
+    ensures sound { IfOk result (λ done. IsSound nodes.new done.root done.alive done.most false) }
+    ensures column { (body : Body) → IfOk result (λ done. column_of nodes.new done.root done.most ≡ add (Found rank) body (column_of nodes.old root most)) }
+    ensures change { (body : Body) → IfOk result (λ done. done.change ≡ sum_of false (Add (Found rank) body ∷ []) (column_of nodes.old root most)) }
+{
+    let alloc = nodes.allocator();
+    let entry = entry_at(nodes, root, rank).unwrap();
+    let raised = replaced(nodes, root, rank, more_rows(entry))?;
+    Ok(Done {
+        root: raised,
+        alive: alive + revived_by(entry),
+        most,
+        change: Change::of(Vec::new(alloc), Vec::new(alloc), Vec::new(alloc)),
+    })
+}
+
+/// A new item with one row at the gap of a rank.
+fn widened(
+    nodes: &mut Arena,
+    root: Option<u32>,
+    alive: u32,
+    most: u32,
+    rank: u32,
+    body: Body,
+) -> Result<Done, OutOfMemory>
+    requires sound { IsSound nodes.old root alive most false }
+    requires is_rank { rank ≤ size (tree_of nodes.old root) }
+    requires few { size (tree_of nodes.old root) < 2 ^ 31 }
+    ensures sound { IfOk result (λ done. IsSound nodes.new done.root done.alive done.most false) }
+    ensures column { IfOk result (λ done. column_of nodes.new done.root done.most ≡ add (Gap rank) body (column_of nodes.old root most)) }
+    ensures change { IfOk result (λ done. done.change ≡ sum_of false (Add (Gap rank) body ∷ []) (column_of nodes.old root most)) }
+{
+    let alloc = nodes.allocator();
+    let most = most.max(size_of(nodes, root) + 1);
+    let path = path_to(nodes, root, Place::Gap(rank), root_path());
+    let grafted = graft(nodes, root, rank, Entry { body, count: 1 })?;
+    if !too_deep(path.len, u64::from(most)) {
+        let change = added_alone(alloc, code(path))?;
+        return Ok(Done {
+            root: grafted,
+            alive: alive + 1,
+            most,
+            change,
+        });
+    }
+    let rebuilt = rebalanced(nodes, grafted, rank, u64::from(most))?;
+    let mut added = Vec::new(alloc);
+    added.push(rebuilt.added)?;
+    Ok(Done {
+        root: rebuilt.root,
+        alive: alive + 1,
+        most,
+        change: Change::of(rebuilt.moved, Vec::new(alloc), added),
+    })
+}
+
+/// One row more at a place of the tree of a link, over the nodes that there are.
+fn placed(
+    nodes: &mut Arena,
+    root: Option<u32>,
+    alive: u32,
+    most: u32,
+    place: Place,
+    body: Body,
+) -> Result<Done, OutOfMemory>
+    requires sound { IsSound nodes.old root alive most false }
+    requires is_place { IsPlaceOf (size (tree_of nodes.old root)) place }
+    requires few { size (tree_of nodes.old root) < 2 ^ 31 }
+    requires room { HasRoom (column_of nodes.old root most) place }
+    ensures sound { IfOk result (λ done. IsSound nodes.new done.root done.alive done.most false) }
+    ensures column { IfOk result (λ done. column_of nodes.new done.root done.most ≡ add place body (column_of nodes.old root most)) }
+    ensures change { IfOk result (λ done. done.change ≡ sum_of false (Add place body ∷ []) (column_of nodes.old root most)) }
+{
+    match place {
+        Place::Found(rank) => {
+            let done = raised(nodes, root, alive, most, rank)?;
+            Ok(done)
+        }
+        Place::Gap(rank) => {
+            let done = widened(nodes, root, alive, most, rank, body)?;
+            Ok(done)
+        }
+    }
+}
+
+/// One row more at a place of the tree of a link.
+fn inserted(
+    nodes: &mut Arena,
+    root: Option<u32>,
+    alive: u32,
+    most: u32,
+    place: Place,
+    body: Body,
+) -> Result<Done, OutOfMemory>
+    requires sound { IsSound nodes.old root alive most false }
+    requires is_place { IsPlaceOf (size (tree_of nodes.old root)) place }
+    requires few { size (tree_of nodes.old root) < 2 ^ 31 }
+    requires room { HasRoom (column_of nodes.old root most) place }
+    ensures sound { IfOk result (λ done. IsSound nodes.new done.root done.alive done.most false) }
+    ensures column { IfOk result (λ done. column_of nodes.new done.root done.most ≡ add place body (column_of nodes.old root most)) }
+    ensures change { IfOk result (λ done. done.change ≡ sum_of false (Add place body ∷ []) (column_of nodes.old root most)) }
+{
+    let done = placed(nodes, root, alive, most, place, body)?;
+    let root = compacted(nodes, done.root)?;
+    Ok(Done {
+        root,
+        alive: done.alive,
+        most: done.most,
+        change: done.change,
+    })
+}
+
+impl Tree {
+    /// One row more. A found item's count rises and its body stays; a gap gets a new item with this body and the count 1,
+    /// and where it stands too deep, the tree of its nearest ancestor that is too tall is balanced.
+    ///
+    /// The place must be one of the tree, which must have fewer than 2^31 items, and a found item's count must be below
+    /// 2^32 - 1. After `OutOfMemory` the tree is spent.
+    pub fn insert_at(&mut self, place: Place, body: Body) -> Result<Change, OutOfMemory>
+        requires is_place { IsPlaceOf (size self.old.column.tree) place }
+        requires few { size self.old.column.tree < 2 ^ 31 }
+        requires room { HasRoom self.old.column place }
+        ensures column { OnOk result (self.new.column ≡ add place body self.old.column) }
+        ensures change { IfOk result (λ change. change ≡ sum_of false (Add place body ∷ []) self.old.column) }
+        ensures fresh { OnOk result (self.new.spent ≡ false) }
+        ensures spent { OnErr result (self.new ≡ empty_seen true) }
+        ensures refused { self.old.spent ≡ true → IsErr result }
+        ensures kept { IsKept Body false self.new.column }
+        ensures short { height self.new.column.tree ≤ 63 }
+    {
+        if self.spent {
+            return Err(OutOfMemory);
+        }
+        let done = inserted(
+            &mut self.nodes,
+            self.root,
+            self.alive,
+            self.most,
+            place,
+            body,
+        );
+        match done {
+            Ok(done) => {
+                self.root = done.root;
+                self.alive = done.alive;
+                self.most = done.most;
+                Ok(done.change)
+            }
+            Err(_) => {
+                *self = Tree::gone(self.nodes.allocator());
+                Err(OutOfMemory)
+            }
+        }
+    }
+}

@@ -1,0 +1,18 @@
+//! Nodes of search trees.
+use value_cipher::Body;
+
+/// An item: a sealed value, and how many rows have it.
+#[derive(Clone, Copy)]
+pub struct Entry {
+    pub body: Body,
+    pub count: u32,
+}
+
+/// A node, with the numbers of its children and the number of items in its tree.
+#[derive(Clone, Copy)]
+pub struct Node {
+    pub left: Option<u32>,
+    pub right: Option<u32>,
+    pub size: u32,
+    pub entry: Entry,
+}

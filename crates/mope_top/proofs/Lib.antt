@@ -9,5 +9,6 @@ mod BatchLemmas
 pub mod ReportLines
 pub mod WalkLemmas
 pub mod RowLemmas
-pub mod ItemLemmas
+pub mod CodedRows
+pub mod PlaceLemmas
 pub mod ReplayLemmas

@@ -1,6 +1,6 @@
 -- How the answers over the sealed items follow the answers over the plain values.
 use Rattle.std.proofs.Common.{◌≡◌, ℕ, ◌+◌, ◌≤◌, ◌<◌, Bool, true, false, ◌&&◌, leb, List, [], ◌∷◌, ◌++◌, refl, ap, ◌∙◌, sym, arith, append-nil, append_assoc}
-use Rattle.tree_model.specs.Items.{Item}
+use Rattle.tree_model.specs.Items.{Item, values}
 use Rattle.tree_model.proofs.Ordered.{IsIncreasing-nil}
 use Rattle.value_cipher.specs.declared.Body.{Body}
 use Rattle.mope_top.specs.declared.first_form.Statement.{Statement}
@@ -39,7 +39,7 @@ pub record Follows (key : List ℕ) (all left : List Statement) (items : List (I
   pub few : inserted + inserts left ≤ 65536
 
 pub follows-init : (key : List ℕ) (all : List Statement) → inserts all ≤ 65536 → Follows key all all [] 0 []
-unfolding rows_within rows_where rows_of count_within values_of
+unfolding rows_within rows_where rows_of count_within values_of values
 follows-init key all h = record {
   values = [];
   sound = record { increasing = IsIncreasing-nil; rows = refl; few = omega arith };

@@ -1,15 +1,25 @@
--- The walk from the middle: the place of a value among items, by its place among those before or after the middle one.
-use Rattle.std.proofs.Common.{◌≡◌, ℕ, suc, zero, ◌+◌, ◌-◌, ◌*◌, ◌/◌, ◌^◌, ◌<◌, Bool, true, false, ltb, eqb, ◌||◌, List, [], ◌∷◌, ◌++◌, length, take, drop, get_or, map, refl, ap, ap₂, ◌∙◌, sym, subst, arith, lt-ltb, le-ltb, ne_eqb, drop-cons, take-append-drop, length-append, length-take-le, add-one, pow-suc}
+-- The walk to a value's place: what hangs on the side to which it turns at an item has the value's place where the whole tree has it.
+use Rattle.std.proofs.Common.{◌≡◌, ℕ, suc, ◌+◌, ◌-◌, ◌*◌, ◌<◌, ◌≤◌, Bool, true, false, ltb, eqb, ◌||◌, List, [], ◌∷◌, ◌++◌, length, Some, refl, ap, ap₂, ◌∙◌, sym, subst, arith, lt-ltb, le-ltb, ne_eqb, length-append, append-nil, append_assoc}
 use Rattle.std.proofs.lemmas.List.{get_or_at, map-append, length-map}
+use Rattle.tree_model.specs.declared.Side.{Side}
 use Rattle.tree_model.specs.declared.Side.TheVariants.{Left, Right}
 use Rattle.tree_model.specs.declared.Place.{Place}
 use Rattle.tree_model.specs.declared.Place.TheVariants.{Found, Gap}
-use Rattle.tree_model.specs.Trees.{past, path, balanced}
+use Rattle.tree_model.specs.Trees.{Tree, leaf, node, inorder, size, height, past, path}
 use Rattle.tree_model.specs.Places.{one_if, below, holds, placed, place, IsBelowAll, IsIncreasing, number}
-use Rattle.tree_model.proofs.Ways.{number-le}
-use Rattle.tree_model.proofs.Halves.{path-balanced_left, path-balanced_here, path-balanced_right, path-balanced_nil}
+use Rattle.tree_model.specs.Items.{Item, values}
+use Rattle.tree_model.specs.Insertion.{child, tree_at}
+use Rattle.tree_model.proofs.Ways.{number-le, length-inorder, path-leaf, path-left, path-here, path-right}
 use Rattle.tree_model.proofs.Ordered.{IsBelowAll-le, IsPlaceOf-place, place-IsFound}
-use Rattle.mope_top.specs.SealedItems.{after}
+use Rattle.value_cipher.specs.declared.Body.{Body}
+use Rattle.value_cipher.specs.Cipher.{unseal_of}
+use Rattle.ope_tree.specs.declared.stops.At.{At}
+use Rattle.ope_tree.specs.declared.stops.Stop.{Stop}
+use Rattle.ope_tree.specs.declared.stops.Stop.TheVariants as stops
+use Rattle.ope_tree.specs.declared.stops.Stop.TheVariants.{Node}
+use Rattle.ope_tree.specs.Seen.{Seen}
+use Rattle.ope_tree.specs.Standing.{root_item, IsNodeThere, StandsAt}
+use Rattle.mope_top.specs.SealedItems.{values_of, way_to, LiesOn}
 
 -- ---- a list around an item
 
@@ -72,6 +82,11 @@ holds-after v (x ∷ xs) m ys lt up =
     let e : eqb x v ≡ false = ne_eqb x v (omega (arith, lt-middle x xs m ys up.0)) in
     rw e (holds-after v xs m ys lt up.1)
 
+-- a place among the items after the first n, as it is called among all of them
+after : ℕ → Place → Place
+after n (Found rank) = Found (n + rank)
+after n (Gap rank) = Gap (n + rank)
+
 after-placed : (n k : ℕ) (b : Bool) → placed b (n + k) ≡ after n (placed b k)
 unfolding placed after
 after-placed n k true = refl
@@ -100,115 +115,188 @@ unfolding number after
 number-after n (Found rank) = omega arith
 number-after n (Gap rank) = omega arith
 
--- ---- a list in its halves
+-- ---- the way to a value at a node
 
-halves : {A : Type 0} (items : List A) (d : A) → 0 < length items → items ≡ take (length items / 2) items ++ get_or items (length items / 2) d ∷ drop (suc (length items / 2)) items
-halves items d h =
-    let middle : length items / 2 < length items = omega arith in
-    sym (take-append-drop (length items / 2) items) ∙ ap (λ (rest : List _). take (length items / 2) items ++ rest) (drop-cons items (length items / 2) d middle)
+values-node : (key : List ℕ) (l : Tree (Item Body)) (item : Item Body) (r : Tree (Item Body))
+    → values_of key (inorder (node l item r)) ≡ values_of key (inorder l) ++ unseal_of key item.body ∷ values_of key (inorder r)
+unfolding values_of values inorder
+values-node key l item r = map-append (λ (i : Item Body). unseal_of key i.body) (inorder l) (item ∷ inorder r)
 
-front_length : {A : Type 0} (f : A → ℕ) (items : List A) → length (map f (take (length items / 2) items)) ≡ length items / 2
-front_length f items = length-map (take (length items / 2) items) f ∙ length-take-le (length items / 2) items (omega arith)
+length-values : (key : List ℕ) (t : Tree (Item Body)) → length (values_of key (inorder t)) ≡ size t
+unfolding values_of values
+length-values key t = length-map (inorder t) (λ (i : Item Body). unseal_of key i.body) ∙ length-inorder t
 
-mapped_halves : {A : Type 0} (f : A → ℕ) (items : List A) (d : A) → 0 < length items
-    → map f items ≡ map f (take (length items / 2) items) ++ f (get_or items (length items / 2) d) ∷ map f (drop (suc (length items / 2)) items)
-mapped_halves f items d h = ap (map f) (halves items d h) ∙ map-append f (take (length items / 2) items) (get_or items (length items / 2) d ∷ drop (suc (length items / 2)) items)
+way_to-leaf : (key : List ℕ) (v : ℕ) → way_to key leaf v ≡ []
+unfolding way_to
+way_to-leaf key v = path-leaf (Item Body) (place (values_of key (inorder leaf)) v)
 
-pub halves-IsIncreasing : {A : Type 0} (f : A → ℕ) (items : List A) (d : A) → 0 < length items → IsIncreasing (map f items)
-    → IsIncreasing (map f (take (length items / 2) items)) × IsIncreasing (map f (drop (length items / 2 + 1) items))
-halves-IsIncreasing f items d h up =
-    let half = length items / 2 in
-    let split : IsIncreasing (map f (take half items) ++ f (get_or items half d) ∷ map f (drop (suc half) items)) = subst IsIncreasing (mapped_halves f items d h) up in (
-      IsIncreasing-before (map f (take half items)) (f (get_or items half d) ∷ map f (drop (suc half) items)) split,
-      rw add-one (IsIncreasing-after (map f (take half items)) (f (get_or items half d)) (map f (drop (suc half) items)) split),
+way_to-here : (key : List ℕ) (v : ℕ) (l : Tree (Item Body)) (item : Item Body) (r : Tree (Item Body)) → IsIncreasing (values_of key (inorder (node l item r)))
+    → v ≡ unseal_of key item.body → way_to key (node l item r) v ≡ []
+unfolding way_to number
+way_to-here key v l item r up e =
+    let front = values_of key (inorder l) in
+    let back = values_of key (inorder r) in
+    let split = values-node key l item r in
+    let at : place (values_of key (inorder (node l item r))) v ≡ Found (length front) =
+    ap (λ (xs : List ℕ). place xs v) split ∙ place-middle v front (unseal_of key item.body) back (sym e) (subst IsIncreasing split up) in
+    ap (path (node l item r)) at ∙ path-here l item r (Found (length front)) (omega (arith, length-values key l))
+
+way_to-left : (key : List ℕ) (v : ℕ) (l : Tree (Item Body)) (item : Item Body) (r : Tree (Item Body)) → IsIncreasing (values_of key (inorder (node l item r)))
+    → v < unseal_of key item.body → (way_to key (node l item r) v ≡ Left ∷ way_to key l v) × IsIncreasing (values_of key (inorder l))
+unfolding way_to
+way_to-left key v l item r up lt =
+    let m = unseal_of key item.body in
+    let front = values_of key (inorder l) in
+    let back = values_of key (inorder r) in
+    let split = values-node key l item r in
+    let up_here = subst IsIncreasing split up in
+    let up_left = IsIncreasing-before front (m ∷ back) up_here in
+    let at : place (values_of key (inorder (node l item r))) v ≡ place front v = ap (λ (xs : List ℕ). place xs v) split ∙ place-before v front m back lt up_here in
+    let low = number-le (length front) (place front v) (IsPlaceOf-place front v up_left) in
+    (ap (path (node l item r)) at ∙ path-left l item r (place front v) (omega (arith, low, length-values key l)), up_left)
+
+way_to-right : (key : List ℕ) (v : ℕ) (l : Tree (Item Body)) (item : Item Body) (r : Tree (Item Body)) → IsIncreasing (values_of key (inorder (node l item r)))
+    → unseal_of key item.body < v → (way_to key (node l item r) v ≡ Right ∷ way_to key r v) × IsIncreasing (values_of key (inorder r))
+unfolding way_to
+way_to-right key v l item r up lt =
+    let m = unseal_of key item.body in
+    let front = values_of key (inorder l) in
+    let back = values_of key (inorder r) in
+    let split = values-node key l item r in
+    let up_here = subst IsIncreasing split up in
+    let p = after (suc (size l)) (place back v) in
+    let at : place (values_of key (inorder (node l item r))) v ≡ p =
+    ap (λ (xs : List ℕ). place xs v) split ∙ place-after v front m back lt up_here ∙ ap (λ (n : ℕ). after (suc n) (place back v)) (length-values key l) in
+    let beyond = number-after (suc (size l)) (place back v) in (
+      ap (path (node l item r)) at
+          ∙ path-right l item r p (omega (arith, beyond))
+          ∙ ap (λ (q : Place). Right ∷ path r q) (past-after (suc (size l)) (place back v)),
+      IsIncreasing-after front m back up_here,
     )
 
--- ---- the steps of the walk
+-- ---- the walk
 
-pub find-none : {A : Type 0} (f : A → ℕ) (items : List A) (v : ℕ) → length items ≡ 0 → (place (map f items) v ≡ Gap 0) × (path (balanced items) (place (map f items) v) ≡ [])
-unfolding place placed holds below
-find-none f [] v h = (refl, path-balanced_nil _ (Gap 0))
-find-none f (item ∷ items) v h = absurd (omega arith)
+tree_at-turn : {A : Type 0} (walked : List Side) (side : Side) (t : Tree A) → tree_at (walked ++ side ∷ []) t ≡ child side (tree_at walked t)
+unfolding tree_at
+tree_at-turn [] side t = refl
+tree_at-turn (first ∷ walked) side t = tree_at-turn walked side (child first t)
 
-pub find-here : {A : Type 0} (f : A → ℕ) (items : List A) (d : A) (v : ℕ) → 0 < length items → IsIncreasing (map f items)
-    → f (get_or items (length items / 2) d) ≡ v
-    → (place (map f items) v ≡ Found (length items / 2)) × (path (balanced items) (place (map f items) v) ≡ [])
-unfolding number
-find-here f items d v h up e =
-    let half = length items / 2 in
-    let front = map f (take half items) in
-    let back = map f (drop (suc half) items) in
-    let m = f (get_or items half d) in
-    let split = mapped_halves f items d h in
-    let at : place (map f items) v ≡ Found half =
-    ap (λ (xs : List ℕ). place xs v) split ∙ place-middle v front m back e (subst IsIncreasing split up) ∙ ap Found (front_length f items) in
-    (at, rw at (path-balanced_here items (Found half) h refl))
+-- a node with this item
+record HasRoot (u : Tree (Item Body)) (item : Item Body) : Type 0 where
+  left : Tree (Item Body)
+  right : Tree (Item Body)
+  is : u ≡ node left item right
 
-pub find-left : {A : Type 0} (f : A → ℕ) (items : List A) (d : A) (v : ℕ) → 0 < length items → IsIncreasing (map f items)
-    → v < f (get_or items (length items / 2) d)
-    → (place (map f items) v ≡ place (map f (take (length items / 2) items)) v)
-    × (path (balanced items) (place (map f items) v) ≡ Left ∷ path (balanced (take (length items / 2) items)) (place (map f (take (length items / 2) items)) v))
-find-left f items d v h up lt =
-    let half = length items / 2 in
-    let front = map f (take half items) in
-    let back = map f (drop (suc half) items) in
-    let m = f (get_or items half d) in
-    let split = mapped_halves f items d h in
-    let at : place (map f items) v ≡ place front v =
-    ap (λ (xs : List ℕ). place xs v) split ∙ place-before v front m back lt (subst IsIncreasing split up) in
-    let low = number-le (length front) (place front v) (IsPlaceOf-place front v ((halves-IsIncreasing f items d h up).0)) in
-    (at, rw at (path-balanced_left items (place front v) h (omega (arith, low, front_length f items))))
+root_of : (u : Tree (Item Body)) (item : Item Body) → root_item u ≡ Some item → HasRoot u item
+unfolding root_item
+root_of leaf item e = absurd (cc)
+root_of (node l x r) item e = let same : x ≡ item = cc in record { left = l; right = r; is = ap (λ (i : Item Body). node l i r) same }
 
-pub find-right : {A : Type 0} (f : A → ℕ) (items : List A) (d : A) (v : ℕ) → 0 < length items → IsIncreasing (map f items)
-    → f (get_or items (length items / 2) d) < v
-    → (place (map f items) v ≡ after (length items / 2 + 1) (place (map f (drop (length items / 2 + 1) items)) v))
-    × (path (balanced items) (place (map f items) v) ≡ Right ∷ path (balanced (drop (length items / 2 + 1) items)) (place (map f (drop (length items / 2 + 1) items)) v))
-find-right f items d v h up lt =
-    let half = length items / 2 in
-    let front = map f (take half items) in
-    let back = map f (drop (suc half) items) in
-    let m = f (get_or items half d) in
-    let split = mapped_halves f items d h in
-    let at : place (map f items) v ≡ after (suc half) (place back v) =
-    ap (λ (xs : List ℕ). place xs v) split ∙ place-after v front m back lt (subst IsIncreasing split up) ∙ ap (λ (n : ℕ). after (suc n) (place back v)) (front_length f items) in
-    let high = number-after (suc half) (place back v) in
-    let one : half + 1 ≡ suc half = omega arith in
-    rw one (
-      at,
-      rw at (
-          path-balanced_right items (after (suc half) (place back v)) h (omega arith)
-          ∙ ap (λ (p : Place). Right ∷ path (balanced (drop (suc half) items)) p) (past-after (suc half) (place back v))),
-    )
+-- at the end of the way that was walked hangs a part of the tree, and the way on to the value's place is the way in this part
+pub record Walked (key : List ℕ) (v : ℕ) (t : Tree (Item Body)) (walked : List Side) : Type 0 where
+  pub increasing : IsIncreasing (values_of key (inorder (tree_at walked t)))
+  pub onward : way_to key t v ≡ walked ++ way_to key (tree_at walked t) v
+  pub short : length walked + height (tree_at walked t) ≤ 63
 
-after-after : (m n : ℕ) (p : Place) → after m (after n p) ≡ after (m + n) p
-unfolding after
-after-after m n (Found rank) = let e : m + (n + rank) ≡ m + n + rank = omega arith in ap Found e
-after-after m n (Gap rank) = let e : m + (n + rank) ≡ m + n + rank = omega arith in ap Gap e
+pub Walked-root : (key : List ℕ) (v : ℕ) (t : Tree (Item Body)) → IsIncreasing (values_of key (inorder t)) → height t ≤ 63 → Walked key v t []
+unfolding tree_at
+Walked-root key v t up short = record { increasing = up; onward = refl; short = omega arith }
 
-pub after-none : (p : Place) → after 0 p ≡ p
-unfolding after
-after-none (Found rank) = let e : 0 + rank ≡ rank = omega arith in ap Found e
-after-none (Gap rank) = let e : 0 + rank ≡ rank = omega arith in ap Gap e
+-- what a turn to a side of a node gives
+record Turned (key : List ℕ) (v : ℕ) (t part : Tree (Item Body)) (side : Side) : Type 0 where
+  way : way_to key t v ≡ side ∷ way_to key part v
+  increasing : IsIncreasing (values_of key (inorder part))
+  lower : height part < height t
 
-pub after-Gap : (n : ℕ) → after n (Gap 0) ≡ Gap n
-unfolding after
-after-Gap n = let e : n + 0 ≡ n = omega arith in ap Gap e
+turn_to : (key : List ℕ) (v : ℕ) (side : Side) (l : Tree (Item Body)) (item : Item Body) (r : Tree (Item Body)) → IsIncreasing (values_of key (inorder (node l item r)))
+    → LiesOn side v (unseal_of key item.body) → Turned key v (node l item r) (child side (node l item r)) side
+unfolding LiesOn child height
+turn_to key v Left l item r up lies = let on = way_to-left key v l item r up lies in record { way = on.0; increasing = on.1; lower = omega arith }
+turn_to key v Right l item r up lies = let on = way_to-right key v l item r up lies in record { way = on.0; increasing = on.1; lower = omega arith }
 
-pub after-Found : (n k : ℕ) → after n (Found k) ≡ Found (n + k)
-unfolding after
-after-Found n k = refl
+pub Walked-turn : (key : List ℕ) (v : ℕ) (t : Tree (Item Body)) (walked : List Side) (side : Side) (item : Item Body) → Walked key v t walked
+    → root_item (tree_at walked t) ≡ Some item → LiesOn side v (unseal_of key item.body) → Walked key v t (walked ++ side ∷ [])
+Walked-turn key v t walked side item w at lies =
+    let root = root_of (tree_at walked t) item at in
+    let turned = turn_to key v side root.left item root.right (subst (λ (u : Tree (Item Body)). IsIncreasing (values_of key (inorder u))) root.is w.increasing) lies in
+    let part : tree_at (walked ++ side ∷ []) t ≡ child side (node root.left item root.right) = tree_at-turn walked side t ∙ ap (child side) root.is in
+    let low : length walked + height (node root.left item root.right) ≤ 63 = rw root.is at w.short in
+    record {
+      increasing = rw part turned.increasing;
+      onward =
+          w.onward
+          ∙ ap (λ (u : Tree (Item Body)). walked ++ way_to key u v) root.is
+          ∙ ap (λ (more : List Side). walked ++ more) turned.way
+          ∙ sym (append_assoc walked (side ∷ []) (way_to key (child side (node root.left item root.right)) v))
+          ∙ ap (λ (u : Tree (Item Body)). (walked ++ side ∷ []) ++ way_to key u v) (sym part);
+      short = rw part (omega (arith, low, turned.lower, length-append walked (side ∷ [])));
+    }
 
-pub after_more : (n half : ℕ) (p : Place) → after n (after (half + 1) p) ≡ after (n + half + 1) p
-after_more n half p = let e : n + (half + 1) ≡ n + half + 1 = omega arith in after-after n (half + 1) p ∙ ap (λ (m : ℕ). after m p) e
+-- at a node there is room for a step more
+pub Walked-room : (key : List ℕ) (v : ℕ) (t : Tree (Item Body)) (walked : List Side) (item : Item Body) → Walked key v t walked
+    → root_item (tree_at walked t) ≡ Some item → length walked < 63
+unfolding height
+Walked-room key v t walked item w at =
+    let root = root_of (tree_at walked t) item at in
+    let low : length walked + height (node root.left item root.right) ≤ 63 = rw root.is at w.short in
+    omega arith
 
--- a part of fewer than 2 ^ (63 - len) items, which hangs at the end of a way of len steps, leaves room for a step more
-pub room_for_step : (count len : ℕ) → 0 < count → count < 2 ^ (63 - len)
-    → (len < 63) × (count / 2 < 2 ^ (63 - (len + 1))) × (count - (count / 2 + 1) < 2 ^ (63 - (len + 1)))
-room_for_step count len h few = by_room (63 - len) refl few
-  where
-    by_room : (room : ℕ) → 63 - len ≡ room → count < 2 ^ room → (len < 63) × (count / 2 < 2 ^ (63 - (len + 1))) × (count - (count / 2 + 1) < 2 ^ (63 - (len + 1)))
-    by_room zero e few = absurd (omega arith)
-    by_room (suc room) e few =
-        let less : 63 - (len + 1) ≡ room = omega arith in
-        let twice = pow-suc 2 room in
-        rw less (omega arith, omega arith, omega arith)
+-- the walk ends at the value's item
+pub Walked-here : (key : List ℕ) (v : ℕ) (t : Tree (Item Body)) (walked : List Side) (item : Item Body) → Walked key v t walked
+    → root_item (tree_at walked t) ≡ Some item → v ≡ unseal_of key item.body → walked ≡ way_to key t v
+Walked-here key v t walked item w at e =
+    let root = root_of (tree_at walked t) item at in
+    let up = subst (λ (u : Tree (Item Body)). IsIncreasing (values_of key (inorder u))) root.is w.increasing in
+    sym (
+    w.onward
+    ∙ ap (λ (u : Tree (Item Body)). walked ++ way_to key u v) root.is
+    ∙ ap (λ (more : List Side). walked ++ more) (way_to-here key v root.left item root.right up e)
+    ∙ append-nil walked)
+
+-- or where nothing hangs
+pub Walked-gap : (key : List ℕ) (v : ℕ) (t : Tree (Item Body)) (walked : List Side) → Walked key v t walked → tree_at walked t ≡ leaf → walked ≡ way_to key t v
+Walked-gap key v t walked w e =
+    sym (
+    w.onward
+    ∙ ap (λ (u : Tree (Item Body)). walked ++ way_to key u v) e
+    ∙ ap (λ (more : List Side). walked ++ more) (way_to-leaf key v)
+    ∙ append-nil walked)
+
+-- the walk stands at what the stop tells
+pub record StandsWalked (key : List ℕ) (v : ℕ) (t : Seen) (walked : List Side) (stop : Stop) : Type 0 where
+  pub way : Walked key v t.column.tree walked
+  pub stands : StandsAt t walked stop
+
+pub StandsWalked-root : (key : List ℕ) (v : ℕ) (t : Seen) (stop : Stop) → IsIncreasing (values_of key (inorder t.column.tree)) → height t.column.tree ≤ 63
+    → StandsAt t [] stop → StandsWalked key v t [] stop
+StandsWalked-root key v t stop up short stands = record { way = Walked-root key v t.column.tree up short; stands = stands }
+
+item_there : (t : Seen) (walked : List Side) (stop : Stop) (at : At) (body : Body) → StandsAt t walked stop → stop ≡ Node at body → IsNodeThere t walked at.0 body
+item_there t walked stop at body stands e = rw e at stands
+
+pub StandsWalked-room : (key : List ℕ) (v : ℕ) (t : Seen) (walked : List Side) (stop : Stop) (at : At) (body : Body) → StandsWalked key v t walked stop
+    → stop ≡ Node at body → length walked < 63
+StandsWalked-room key v t walked stop at body s e =
+    let there = item_there t walked stop at body s.stands e in
+    Walked-room key v t.column.tree walked (record { body = body; count = there.count }) s.way there.item
+
+pub StandsWalked-turn : (key : List ℕ) (v : ℕ) (t : Seen) (walked : List Side) (stop : Stop) (at : At) (body : Body) (held : ℕ) (side : Side) (next : Stop) → StandsWalked key v t walked stop
+    → stop ≡ Node at body → held ≡ unseal_of key body → LiesOn side v held → StandsAt t (walked ++ side ∷ []) next → StandsWalked key v t (walked ++ side ∷ []) next
+StandsWalked-turn key v t walked stop at body held side next s e unsealed lies stands =
+    let there = item_there t walked stop at body s.stands e in
+    record {
+      way = Walked-turn key v t.column.tree walked side (record { body = body; count = there.count }) s.way there.item (subst (LiesOn side v) unsealed lies);
+      stands = stands;
+    }
+
+pub StandsWalked-here : (key : List ℕ) (v : ℕ) (t : Seen) (walked : List Side) (stop : Stop) (at : At) (body : Body) (held : ℕ) → StandsWalked key v t walked stop
+    → stop ≡ Node at body → held ≡ unseal_of key body → v ≡ held → walked ≡ way_to key t.column.tree v
+StandsWalked-here key v t walked stop at body held s e unsealed same =
+    let there = item_there t walked stop at body s.stands e in
+    Walked-here key v t.column.tree walked (record { body = body; count = there.count }) s.way there.item (same ∙ unsealed)
+
+pub StandsWalked-gap : (key : List ℕ) (v : ℕ) (t : Seen) (walked : List Side) (stop : Stop) → StandsWalked key v t walked stop
+    → stop ≡ stops.Gap → walked ≡ way_to key t.column.tree v
+StandsWalked-gap key v t walked stop s e =
+    let nothing : tree_at walked t.column.tree ≡ leaf = rw e at s.stands in
+    Walked-gap key v t.column.tree walked s.way nothing

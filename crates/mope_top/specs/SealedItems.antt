@@ -1,34 +1,32 @@
--- What the server part keeps of the rows: an item for each value, in the values' order, with the sealed value and how many
--- rows have it. The definitions with a key tell what this is to who has the key.
-use Rattle.std.specs.Prelude.{◌≡◌, ℕ, ◌+◌, ◌≤◌, Bool, true, false, ◌&&◌, leb, List, [], ◌∷◌, ◌++◌, map, length}
+-- What the server part keeps of the rows: a search tree with an item for each value, in the values' order, with the sealed value and
+-- how many rows have it. The definitions with a key tell what this is to who has the key.
+use Rattle.std.specs.Prelude.{◌≡◌, ℕ, suc, ◌+◌, ◌<◌, ◌≤◌, Bool, true, false, ◌&&◌, leb, List, [], ◌∷◌, length}
 use Rattle.tree_model.specs.declared.Side.{Side}
 use Rattle.tree_model.specs.declared.Side.TheVariants.{Left, Right}
-use Rattle.tree_model.specs.declared.Place.{Place}
-use Rattle.tree_model.specs.declared.Place.TheVariants.{Found, Gap}
-use Rattle.tree_model.specs.Trees.{Tree, leaf, node}
+use Rattle.tree_model.specs.Trees.{Tree, inorder, path}
 use Rattle.tree_model.specs.Places.{place, IsIncreasing}
-use Rattle.tree_model.specs.Items.{Item, add_item}
-use Rattle.path_code.specs.Codes.{code_of}
+use Rattle.tree_model.specs.Items.{Item, values, add_item}
+use Rattle.path_code.specs.Sums.{item_code}
 use Rattle.value_cipher.specs.declared.Body.{Body}
 use Rattle.value_cipher.specs.Cipher.{seal_of, unseal_of, nonce_at}
-use Rattle.mope_top.specs.declared.sealed_items.SealedItem.{SealedItem}
 use Rattle.mope_top.specs.declared.first_form.Statement.{Statement}
 use Rattle.mope_top.specs.declared.first_form.Statement.TheVariants.{Insert, Count}
 use Rattle.mope_top.specs.declared.first_form.FormAnswer.{FormAnswer}
 use Rattle.mope_top.specs.declared.first_form.FormAnswer.TheVariants.{Inserted, Counted}
 use Rattle.mope_top.specs.FirstForm.{inserts}
 
--- the item that is stored
-unfoldable pub stored : SealedItem → Item Body
-stored item = record { body = item.body; count = item.count }
-
--- the value of a stored item under a key
-unfoldable pub value_in : List ℕ → SealedItem → ℕ
-value_in key item = unseal_of key item.body
-
 -- the values of items under a key
 unfoldable pub values_of : List ℕ → List (Item Body) → List ℕ
-values_of key items = map (λ (item : Item Body). unseal_of key item.body) items
+values_of key items = values (unseal_of key) items
+
+-- the way from the root to the place of v, under a key
+unfoldable pub way_to : List ℕ → Tree (Item Body) → ℕ → List Side
+way_to key t v = path t (place (values_of key (inorder t)) v)
+
+-- the value lies on this side of another
+unfoldable pub LiesOn : Side → ℕ → ℕ → Type 0
+LiesOn Left v held = v < held
+LiesOn Right v held = held < v
 
 -- v lies within both ends
 unfoldable pub within : ℕ → ℕ → ℕ → Bool
@@ -51,17 +49,10 @@ rows_of items = rows_where (λ body. true) items
 unfoldable pub rows_within : List ℕ → ℕ → ℕ → List (Item Body) → ℕ
 rows_within key low high items = rows_where (λ body. within low high (unseal_of key body)) items
 
--- how many rows the items of a tree stand for whose codes lie within both ends; the tree hangs at the end of a way
-unfoldable pub rows_coded : ℕ → ℕ → List Side → Tree SealedItem → ℕ
-rows_coded low high way leaf = 0
-rows_coded low high way (node l item r) =
-    rows_coded low high (way ++ Left ∷ []) l
-    + (add_if (within low high (code_of way)) item.count 0 + rows_coded low high (way ++ Right ∷ []) r)
-
--- a place among the items after the first n, as it is called among all of them
-unfoldable pub after : ℕ → Place → Place
-after n (Found rank) = Found (n + rank)
-after n (Gap rank) = Gap (n + rank)
+-- how many rows have an item whose code in the tree lies within both ends; the first of these items has this rank
+unfoldable pub rows_coded : ℕ → ℕ → Tree (Item Body) → ℕ → List (Item Body) → ℕ
+rows_coded low high t rank [] = 0
+rows_coded low high t rank (item ∷ items) = add_if (within low high (item_code t rank)) item.count (rows_coded low high t (suc rank) items)
 
 -- the items after so many INSERTs
 pub record IsSound (key : List ℕ) (items : List (Item Body)) (inserted : ℕ) : Type 0 where

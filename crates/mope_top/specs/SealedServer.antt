@@ -1,9 +1,9 @@
--- The server part as the list of its items.
-use Rattle.std.specs.Prelude.{List, map}
+-- The server part as the tree of its items, and as their list.
+use Rattle.std.specs.Prelude.{List}
+use Rattle.tree_model.specs.Trees.{inorder}
 use Rattle.tree_model.specs.Items.{Item}
 use Rattle.value_cipher.specs.declared.Body.{Body}
 use Rattle.mope_top.specs.declared.sealed_items.SealedItems.{SealedItems}
-use Rattle.mope_top.specs.SealedItems.{stored}
 
 abbrev pub items_of : SealedItems → List (Item Body)
-items_of server = map stored server.items.items
+items_of server = inorder server.tree.column.tree

@@ -1,4 +1,4 @@
-use Rattle.std.proofs.Common.{◌∙◌, subst, map, inl, inr}
+use Rattle.std.proofs.Common.{◌∙◌, subst, inl, inr}
 use Rattle.mope_top.specs.Batch.{HasText}
 use Rattle.mope_top.specs.Words.{texts}
 use Rattle.mope_top.proofs.BatchLemmas.{text-first_form, text-not_first_form, text-wrong_words, stops-wrong_words, wrote}

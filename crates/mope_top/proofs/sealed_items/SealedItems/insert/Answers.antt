@@ -1,23 +1,24 @@
-use Rattle.std.proofs.Common.{◌∙◌, List, ap, map}
-use Rattle.tree_model.specs.Places.{place}
-use Rattle.mope_top.specs.declared.sealed_items.SealedItem.{SealedItem}
-use Rattle.mope_top.specs.SealedItems.{value_in}
-use Rattle.mope_top.proofs.ItemLemmas.{stored-IsIncreasing, stored-IsPlaceOf, stored-with}
+use Rattle.std.proofs.Common.{◌≤◌, length, arith}
+use Rattle.tree_model.specs.Trees.{inorder}
+use Rattle.tree_model.proofs.Ways.{length-inorder}
+use Rattle.mope_top.proofs.PlaceLemmas.{IsPlaceOf-values, has_room, items_with-add}
 use Rattle.mope_top.proofs.sealed_items.SealedItems.insert.Goals as goal
 
-pub find-place-requires-clause-increasing : goal.find-place-requires-clause-increasing
-find-place-requires-clause-increasing c = rw c.as_slice.ensures.value (stored-IsIncreasing c.args.key.now.bytes c.args.self.now.items.items c.requires.sound.increasing)
+pub insert_at-requires-clause-is_place : goal.insert_at-requires-clause-is_place
+insert_at-requires-clause-is_place c =
+    rw c.place_of-place.ensures (IsPlaceOf-values c.args.key.now.bytes c.args.self.now.tree.column.tree c.args.value c.requires.sound.increasing)
 
-pub add-requires-clause-place : goal.add-requires-clause-place
-add-requires-clause-place c =
-    let key = c.args.key.now.bytes in
-    let items = c.args.self.now.items.items in
-    rw (c.find-place.ensures.place, c.as_slice.ensures.value) (stored-IsPlaceOf key items c.args.value (stored-IsIncreasing key items c.requires.sound.increasing))
+pub insert_at-requires-clause-few : goal.insert_at-requires-clause-few
+insert_at-requires-clause-few c =
+    let t = c.args.self.now.tree.column.tree in
+    let few : length (inorder t) ≤ c.args.self.now.inserted = c.requires.sound.few in
+    omega (arith, length-inorder t, few)
 
-pub returns-in-Ok-clause-items : goal.returns-in-Ok-clause-items
-returns-in-Ok-clause-items c =
-    let key = c.args.key.now.bytes in
-    let items = c.args.self.now.items.items in
-    c.in-Ok.ensures
-    ∙ stored-with key items c.args.self.now.inserted c.args.value c.nonce_of.result c.find-place.result.place c.seal-body.result
-    (c.find-place.ensures.place ∙ ap (λ (xs : List SealedItem). place (map (value_in key) xs) c.args.value) c.as_slice.ensures.value) c.nonce_of.ensures c.seal-body.ensures
+pub insert_at-requires-clause-room : goal.insert_at-requires-clause-room
+insert_at-requires-clause-room c =
+    has_room c.args.key.now.bytes c.args.self.now.tree.column c.args.self.now.inserted c.place_of-place.result c.requires.sound c.requires.room
+
+pub returns-clause-items : goal.returns-clause-items
+returns-clause-items c =
+    items_with-add c.args.key.now.bytes c.args.self.now.tree.column c.insert_at.new.self.column c.args.self.now.inserted c.args.value c.nonce_of.result c.place_of-place.result c.seal-body.result
+    c.in_ok-insert_at.ensures.column c.place_of-place.ensures c.nonce_of.ensures c.seal-body.ensures

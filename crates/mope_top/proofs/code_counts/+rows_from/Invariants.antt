@@ -1,5 +1,0 @@
-use Rattle.std.proofs.Common.{length}
-use Rattle.mope_top.proofs.code_counts.+rows_from.Given as goal
-
-abbrev pub decreases-rows_from : goal.decreases-rows_from
-decreases-rows_from l = length l.items.now

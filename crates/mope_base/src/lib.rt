@@ -1,6 +1,7 @@
 //! The types, the errors and the byte streams on which every crate of mope stands.
 #![tactic(auto)]
 
+mod body;
 mod errors;
 mod items;
 mod memory_sink;
@@ -13,6 +14,7 @@ mod status;
 mod std_streams;
 mod writing;
 
+pub use body::Body;
 pub use errors::{Failed, OutOfMemory};
 pub use items::Items;
 pub use memory_sink::MemorySink;

@@ -15,7 +15,7 @@ use Rattle.tree_model.proofs.Ordered.{IsPlaceOf-place, place_compares}
 use Rattle.path_code.specs.Codes.{code_of}
 use Rattle.path_code.specs.Sums.{item_code}
 use Rattle.path_code.proofs.Rising.{Compares-codes, codes_order}
-use Rattle.value_cipher.specs.declared.Body.{Body}
+use Rattle.mope_base.specs.declared.body.Body.{Body}
 use Rattle.value_cipher.specs.Cipher.{unseal_of}
 use Rattle.code_changes.specs.Columns.{counts_of}
 use Rattle.ope_tree.specs.Listed.{count_at}

@@ -15,7 +15,7 @@ use Rattle.tree_model.proofs.Ways.{length-inorder, same_from_number}
 use Rattle.tree_model.proofs.Ordered.{IsPlaceOf-place}
 use Rattle.path_code.specs.Codes.{code_of}
 use Rattle.path_code.proofs.Rising.{codes_order}
-use Rattle.value_cipher.specs.declared.Body.{Body}
+use Rattle.mope_base.specs.declared.body.Body.{Body}
 use Rattle.value_cipher.specs.Cipher.{seal_of, unseal_of, nonce_at}
 use Rattle.ope_tree.specs.Standing.{NamesNothing, IsPlaceAt}
 use Rattle.ope_tree.specs.Conditions.{HasRoom}

@@ -8,7 +8,7 @@ use Rattle.tree_model.specs.Places.{place, IsIncreasing}
 use Rattle.tree_model.specs.Items.{Item, values, new_item, one_more, change_at, add_item}
 use Rattle.tree_model.proofs.Ordered.{found_within}
 use Rattle.tree_model.proofs.Changes.{length-change_at, IsIncreasing-add}
-use Rattle.value_cipher.specs.declared.Body.{Body}
+use Rattle.mope_base.specs.declared.body.Body.{Body}
 use Rattle.value_cipher.specs.Cipher.{seal_of, unseal_of, nonce_at}
 use Rattle.value_cipher.proofs.CipherLemmas.{unseal_of-seal_of}
 use Rattle.mope_top.specs.SealedItems.{values_of, within, add_if, rows_where, rows_of, rows_within, IsSound, items_with}

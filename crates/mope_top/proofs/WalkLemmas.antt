@@ -11,7 +11,7 @@ use Rattle.tree_model.specs.Items.{Item, values}
 use Rattle.tree_model.specs.Insertion.{child, tree_at}
 use Rattle.tree_model.proofs.Ways.{number-le, length-inorder, path-leaf, path-left, path-here, path-right}
 use Rattle.tree_model.proofs.Ordered.{IsBelowAll-le, IsPlaceOf-place, place-IsFound}
-use Rattle.value_cipher.specs.declared.Body.{Body}
+use Rattle.mope_base.specs.declared.body.Body.{Body}
 use Rattle.value_cipher.specs.Cipher.{unseal_of}
 use Rattle.ope_tree.specs.declared.stops.At.{At}
 use Rattle.ope_tree.specs.declared.stops.Stop.{Stop}

@@ -7,7 +7,7 @@ use Rattle.tree_model.specs.Trees.{Tree, inorder, path}
 use Rattle.tree_model.specs.Places.{place, IsIncreasing}
 use Rattle.tree_model.specs.Items.{Item, values, add_item}
 use Rattle.path_code.specs.Sums.{item_code}
-use Rattle.value_cipher.specs.declared.Body.{Body}
+use Rattle.mope_base.specs.declared.body.Body.{Body}
 use Rattle.value_cipher.specs.Cipher.{seal_of, unseal_of, nonce_at}
 use Rattle.mope_top.specs.declared.first_form.Statement.{Statement}
 use Rattle.mope_top.specs.declared.first_form.Statement.TheVariants.{Insert, Count}

@@ -5,7 +5,7 @@ use Rattle.std.proofs.Math.ListN.{get_or-map}
 use Rattle.tree_model.specs.Trees.{Tree, leaf, node, inorder, balanced}
 use Rattle.tree_model.specs.Items.{Item}
 use Rattle.tree_model.proofs.Halves.{balanced-at_half, balanced-nil}
-use Rattle.value_cipher.specs.declared.Body.{Body}
+use Rattle.mope_base.specs.declared.body.Body.{Body}
 use Rattle.ope_tree.specs.declared.nodes.Entry.{Entry}
 use Rattle.ope_tree.specs.declared.nodes.Node.{Node}
 use Rattle.ope_tree.specs.Nodes.{item_of, items_of_entries, tree_by, tree_of, IsLink, IsOlder, reach}

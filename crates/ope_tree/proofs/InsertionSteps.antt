@@ -30,7 +30,7 @@ use Rattle.path_code.proofs.Spelling.{length-steps}
 use Rattle.path_code.specs.Sums.{Sum, sum_of}
 use Rattle.path_code.specs.declared.moves.Recode.{Recode}
 use Rattle.path_code.proofs.Sums.{sum_of-insert}
-use Rattle.value_cipher.specs.declared.Body.{Body}
+use Rattle.mope_base.specs.declared.body.Body.{Body}
 use Rattle.ope_tree.specs.declared.nodes.Entry.{Entry}
 use Rattle.ope_tree.specs.Nodes.{item_of}
 use Rattle.ope_tree.specs.Settling.{IsMovedIn, moved_in, added_in}

@@ -1,6 +1,6 @@
 -- The whole tree balanced: its column, what is true of its fields, and the change of its codes.
 use Rattle.std.proofs.Common.{◌≡◌, ℕ, ◌≤◌, ◌^◌, false, List, [], ◌∷◌, ◌++◌, length, map, Option, ap, ap₂, ◌∙◌, sym, subst, arith}
-use Rattle.value_cipher.specs.declared.Body.{Body}
+use Rattle.mope_base.specs.declared.body.Body.{Body}
 use Rattle.tree_model.specs.Trees.{Tree, size, height, inorder, balanced}
 use Rattle.tree_model.specs.Items.{Item, live}
 use Rattle.tree_model.specs.Columns.{Column, Lay, lay, items_of, apply, apply_all}

@@ -6,7 +6,7 @@ use Rattle.std.proofs.Math.Seq.{get_or-append_seam}
 use Rattle.std.proofs.Math.ListN.{get_or-append}
 use Rattle.tree_model.specs.Trees.{Tree, node, size}
 use Rattle.tree_model.specs.Items.{Item}
-use Rattle.value_cipher.specs.declared.Body.{Body}
+use Rattle.mope_base.specs.declared.body.Body.{Body}
 use Rattle.ope_tree.specs.declared.nodes.Node.{Node}
 use Rattle.ope_tree.specs.Nodes.{item_of, newest, tree_by, IsLink, FitsAfter, Fits, IsOlder, IsNodeAt}
 use Rattle.ope_tree.specs.Built.{Extends}

@@ -1,6 +1,6 @@
 -- The tree with one row fewer at an item, built from a copy of one side.
 use Rattle.std.proofs.Common.{◌≡◌, ℕ, suc, ◌+◌, ◌-◌, ◌<◌, List, [], ◌∷◌, Option, Some, None, refl, ap, ap₂, ◌∙◌, sym, arith}
-use Rattle.value_cipher.specs.declared.Body.{Body}
+use Rattle.mope_base.specs.declared.body.Body.{Body}
 use Rattle.tree_model.specs.Trees.{Tree, leaf, node, inorder, size}
 use Rattle.tree_model.specs.Items.{Item, one_less, live}
 use Rattle.tree_model.specs.Removal.{change_tree}

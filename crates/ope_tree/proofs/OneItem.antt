@@ -1,6 +1,6 @@
 -- A column of one item under rows more and fewer.
 use Rattle.std.proofs.Common.{◌≡◌, ℕ, suc, false, refl, ap, ◌∙◌, arith}
-use Rattle.value_cipher.specs.declared.Body.{Body}
+use Rattle.mope_base.specs.declared.body.Body.{Body}
 use Rattle.tree_model.specs.declared.Place.TheVariants.{Found, Gap}
 use Rattle.tree_model.specs.Trees.{leaf, node, inorder, size, side_by, turn_at, path, IsPlaceOf}
 use Rattle.tree_model.specs.Items.{new_item, one_more, one_less, has_rows, live_items, live, is_sparse}

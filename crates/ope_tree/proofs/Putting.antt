@@ -9,7 +9,7 @@ use Rattle.tree_model.specs.Items.{Item}
 use Rattle.tree_model.specs.Insertion.{child, with_child, tree_at, put_at, sizes_along}
 use Rattle.tree_model.specs.Parts.{beside, before}
 use Rattle.tree_model.proofs.GraftPaths.{found-left, found-here, found-right}
-use Rattle.value_cipher.specs.declared.Body.{Body}
+use Rattle.mope_base.specs.declared.body.Body.{Body}
 use Rattle.path_code.specs.Ways.{way}
 use Rattle.ope_tree.specs.declared.nodes.Node.{Node}
 use Rattle.ope_tree.specs.declared.settling.Part.{Part}

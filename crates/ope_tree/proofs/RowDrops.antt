@@ -1,7 +1,7 @@
 -- One row fewer at an item of a tree: how many items have rows, the counts, the codes, and what stays sound.
 use Rattle.std.proofs.Common.{◌≡◌, ℕ, ◌+◌, ◌^◌, ◌<◌, ◌≤◌, true, false, List, [], ◌∷◌, ◌++◌, map, ap, ap₂, ◌∙◌, sym, inl, inr, arith}
 use Rattle.std.proofs.lemmas.Bool.{cases_lt, cases_Bool}
-use Rattle.value_cipher.specs.declared.Body.{Body}
+use Rattle.mope_base.specs.declared.body.Body.{Body}
 use Rattle.tree_model.specs.Trees.{Tree, node, inorder, height}
 use Rattle.tree_model.specs.Items.{Item, one_less, live, drop_item, is_sparse}
 use Rattle.tree_model.specs.Removal.{change_tree}

@@ -2,7 +2,7 @@
 use Rattle.std.proofs.Common.{◌≡◌, ℕ, suc, zero, ◌<◌, ◌≤◌, ltb, eqb, List, [], ◌∷◌, map, filter, refl, ap, ◌∙◌, sym, inl, inr, arith, lt-ltb, le-ltb, eq-eqb, ne_eqb}
 use Rattle.std.specs.List.{zip}
 use Rattle.std.proofs.lemmas.Bool.{cases_lt}
-use Rattle.value_cipher.specs.declared.Body.{Body}
+use Rattle.mope_base.specs.declared.body.Body.{Body}
 use Rattle.tree_model.specs.Items.{Item, live_items}
 use Rattle.tree_model.proofs.LiveItems.{live_items-yes, live_items-no, live_items-nil}
 use Rattle.code_changes.specs.Changes.{with_rows, without_rows}

@@ -10,7 +10,7 @@ use Rattle.tree_model.proofs.Limits.{limit-le, limit-unique}
 use Rattle.path_code.specs.Sums.{Sum, sum_of}
 use Rattle.path_code.specs.SumLaws.{Increase}
 use Rattle.path_code.proofs.Increasing.{sums_increase}
-use Rattle.value_cipher.specs.declared.Body.{Body}
+use Rattle.mope_base.specs.declared.body.Body.{Body}
 use Rattle.ope_tree.specs.declared.nodes.Node.{Node}
 use Rattle.ope_tree.specs.Nodes.{tree_by, tree_of, IsLink}
 use Rattle.ope_tree.specs.Seen.{empty_seen, column_of, seen_of, IsSound}

@@ -6,7 +6,7 @@ use Rattle.tree_model.specs.declared.Side.TheVariants.{Left, Right}
 use Rattle.tree_model.specs.Trees.{Tree, leaf}
 use Rattle.tree_model.specs.Items.{Item}
 use Rattle.tree_model.specs.Insertion.{child, tree_at}
-use Rattle.value_cipher.specs.declared.Body.{Body}
+use Rattle.mope_base.specs.declared.body.Body.{Body}
 use Rattle.ope_tree.specs.declared.nodes.Node.{Node as Stored}
 use Rattle.ope_tree.specs.declared.stops.Stop.{Stop}
 use Rattle.ope_tree.specs.declared.stops.Stop.TheVariants.{Node, Gap}

@@ -1,6 +1,6 @@
 -- What a builder gives: the arena with further nodes, and a link to the wanted tree. Links from before name what they named.
 use Rattle.std.specs.Prelude.{◌≡◌, ℕ, List, ◌++◌, Option}
-use Rattle.value_cipher.specs.declared.Body.{Body}
+use Rattle.mope_base.specs.declared.body.Body.{Body}
 use Rattle.tree_model.specs.Trees.{Tree}
 use Rattle.tree_model.specs.Items.{Item}
 use Rattle.ope_tree.specs.declared.nodes.Node.{Node}

@@ -1,6 +1,6 @@
 -- What callers see to, and the pair of body and count as an item.
 use Rattle.std.specs.Prelude.{ℕ, ◌+◌, ◌<◌, ◌^◌}
-use Rattle.value_cipher.specs.declared.Body.{Body}
+use Rattle.mope_base.specs.declared.body.Body.{Body}
 use Rattle.tree_model.specs.declared.Place.{Place}
 use Rattle.tree_model.specs.declared.Place.TheVariants.{Found, Gap}
 use Rattle.tree_model.specs.Items.{Item}

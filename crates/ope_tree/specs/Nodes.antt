@@ -1,6 +1,6 @@
 -- The nodes of an arena, newest first, and the tree that a link names: a node's number is how many nodes are older, and its children are older than it.
 use Rattle.std.specs.Prelude.{◌≡◌, ℕ, suc, ◌+◌, ◌<◌, Bool, true, false, ◌==◌, List, [], ◌∷◌, length, map, Option, Some, None}
-use Rattle.value_cipher.specs.declared.Body.{Body}
+use Rattle.mope_base.specs.declared.body.Body.{Body}
 use Rattle.tree_model.specs.Trees.{Tree, leaf, node, size}
 use Rattle.tree_model.specs.Items.{Item}
 use Rattle.ope_tree.specs.declared.nodes.Entry.{Entry}

@@ -2,7 +2,7 @@
 use Rattle.std.specs.Prelude.{◌≡◌, ℕ, ◌<◌, ◌^◌, Bool, true, false, List, [], ◌∷◌, ◌++◌, Option, Some, None, refl}
 use Rattle.std.specs.Coded.{Coded, code_by, coded×, coded_ℕ, coded_bool, coded_list, coded_option}
 use Rattle.std.proofs.Common.{ap, ◌∙◌, append_assoc}
-use Rattle.value_cipher.specs.declared.Body.{Body}
+use Rattle.mope_base.specs.declared.body.Body.{Body}
 use Rattle.tree_model.specs.Trees.{Tree, leaf, node, inorder}
 use Rattle.tree_model.specs.Items.{Item, live}
 use Rattle.tree_model.specs.Columns.{Column, empty_column}

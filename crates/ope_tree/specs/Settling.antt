@@ -1,6 +1,6 @@
 -- The part of a tree that becomes balanced after an insertion, and what that does to codes.
 use Rattle.std.specs.Prelude.{◌≡◌, ℕ, suc, ◌+◌, ◌-◌, ◌<◌, ◌≤◌, List, ◌++◌, length, remove, reverse, get_or}
-use Rattle.value_cipher.specs.declared.Body.{Body}
+use Rattle.mope_base.specs.declared.body.Body.{Body}
 use Rattle.tree_model.specs.declared.Side.{Side}
 use Rattle.tree_model.specs.declared.Place.TheVariants.{Found}
 use Rattle.tree_model.specs.Trees.{Tree, inorder, size, height, path, balanced}

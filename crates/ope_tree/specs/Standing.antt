@@ -1,6 +1,6 @@
 -- What stands at the end of a way of a tree.
 use Rattle.std.specs.Prelude.{◌≡◌, ℕ, List, Option, Some, None}
-use Rattle.value_cipher.specs.declared.Body.{Body}
+use Rattle.mope_base.specs.declared.body.Body.{Body}
 use Rattle.tree_model.specs.declared.Side.{Side}
 use Rattle.tree_model.specs.declared.Place.{Place}
 use Rattle.tree_model.specs.Trees.{Tree, leaf, node, size, path, IsPlaceOf}

@@ -1,6 +1,6 @@
 -- What a sweep does to the codes of a tree: the items without rows go, and the others stand as in their balanced tree.
 use Rattle.std.specs.Prelude.{ℕ, List, [], map}
-use Rattle.value_cipher.specs.declared.Body.{Body}
+use Rattle.mope_base.specs.declared.body.Body.{Body}
 use Rattle.tree_model.specs.Trees.{Tree, inorder}
 use Rattle.tree_model.specs.Items.{Item}
 use Rattle.tree_model.specs.Columns.{whole}

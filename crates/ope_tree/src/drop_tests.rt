@@ -1,6 +1,5 @@
 use super::*;
-use mope_base::{Mode, OutOfMemory};
-use value_cipher::Body;
+use mope_base::{Body, Mode, OutOfMemory};
 
 // Three rows of one value, deleted one after the other: only the last deletion changes codes, and gives up that of the root.
 #[test]

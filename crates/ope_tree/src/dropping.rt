@@ -10,7 +10,7 @@ ghost use Rattle.tree_model.specs.Columns.{Drop, drop_one};
 ghost use Rattle.tree_model.specs.Items.{live, one_less};
 ghost use Rattle.tree_model.specs.Removal.{change_tree};
 ghost use Rattle.tree_model.specs.Trees.{height, inorder, size};
-ghost use Rattle.value_cipher.specs.declared.Body.{Body};
+ghost use Rattle.mope_base.specs.declared.body.Body.{Body};
 
 use crate::Tree;
 use crate::arena::Arena;

@@ -10,7 +10,7 @@ ghost use Rattle.tree_model.specs.Columns.{Add, add};
 ghost use Rattle.tree_model.specs.Items.{live, one_more};
 ghost use Rattle.tree_model.specs.Trees.{IsPlaceOf, height, size};
 ghost use Rattle.tree_model.specs.declared.Place.TheVariants.{Found, Gap};
-ghost use Rattle.value_cipher.specs.declared.Body.{Body};
+ghost use Rattle.mope_base.specs.declared.body.Body.{Body};
 
 use crate::Tree;
 use crate::arena::Arena;
@@ -23,12 +23,11 @@ use crate::nodes::Entry;
 use crate::reading::entry_at;
 use crate::settling::rebalanced;
 use crate::ways::path_to;
-use mope_base::OutOfMemory;
+use mope_base::{Body, OutOfMemory};
 use path_code::{code, root as root_path};
 use scapegoat::too_deep;
 use std::alloc::Global;
 use tree_model::Place;
-use value_cipher::Body;
 
 /// A change of one new code and nothing else.
 fn added_alone(alloc: Global, code: u64) -> Result<Change, OutOfMemory>

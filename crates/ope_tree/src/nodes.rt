@@ -1,5 +1,5 @@
 //! Nodes of search trees.
-use value_cipher::Body;
+use mope_base::Body;
 
 /// An item: a sealed value, and how many rows have it.
 #[derive(Clone, Copy)]

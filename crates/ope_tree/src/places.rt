@@ -7,7 +7,7 @@ ghost use Rattle.path_code.specs.Ways.{way};
 ghost use Rattle.std.specs.Prelude.{◌≡◌, ◌+◌, ◌%◌, ◌^◌, ◌<◌, length, MatchOption};
 ghost use Rattle.tree_model.specs.Items.{Item};
 ghost use Rattle.tree_model.specs.Trees.{size};
-ghost use Rattle.value_cipher.specs.declared.Body.{Body};
+ghost use Rattle.mope_base.specs.declared.body.Body.{Body};
 
 use crate::Tree;
 use crate::arena::Arena;

@@ -12,9 +12,9 @@ use crate::arena::Arena;
 use crate::building::size_of;
 use crate::nodes::Entry;
 use crate::ways::{is_place, path_to};
+use mope_base::Body;
 use path_code::{code, root};
 use tree_model::Place;
-use value_cipher::Body;
 
 /// The item of a rank of the tree of a link.
 pub fn entry_at(nodes: &Arena, link: Option<u32>, rank: u32) -> Option<Entry>

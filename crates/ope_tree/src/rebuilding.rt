@@ -6,7 +6,7 @@ ghost use Rattle.std.specs.Prelude.{◌≡◌, ◌≤◌, [], ◌∷◌, false, 
 ghost use Rattle.tree_model.specs.ColumnLaws.{IsKept};
 ghost use Rattle.tree_model.specs.Columns.{Lay, lay};
 ghost use Rattle.tree_model.specs.Trees.{balanced, height};
-ghost use Rattle.value_cipher.specs.declared.Body.{Body};
+ghost use Rattle.mope_base.specs.declared.body.Body.{Body};
 
 use crate::Tree;
 use crate::arena::Arena;

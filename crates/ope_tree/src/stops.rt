@@ -7,8 +7,8 @@ ghost use Rattle.tree_model.specs.declared.Side.{Side};
 
 use crate::Tree;
 use crate::arena::Arena;
+use mope_base::Body;
 use tree_model::Side;
-use value_cipher::Body;
 
 /// The name of a node. It holds until the tree is changed.
 #[derive(Clone, Copy, PartialEq, Eq, Debug)]

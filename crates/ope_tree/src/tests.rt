@@ -1,6 +1,5 @@
 use super::*;
-use mope_base::{Mode, OutOfMemory};
-use value_cipher::Body;
+use mope_base::{Body, Mode, OutOfMemory};
 
 // A new item at the gap of a number, counted around where the number is too great. A tree of more than 1,000 items ends the test.
 pub(crate) fn put(tree: &mut Tree, number: u64) -> Result<Change, OutOfMemory> {

@@ -5,7 +5,7 @@ ghost use Rattle.tree_model.specs.ColumnLaws.{IsKept};
 ghost use Rattle.tree_model.specs.Columns.{items_of};
 ghost use Rattle.tree_model.specs.Items.{live};
 ghost use Rattle.tree_model.specs.Trees.{height, size};
-ghost use Rattle.value_cipher.specs.declared.Body.{Body};
+ghost use Rattle.mope_base.specs.declared.body.Body.{Body};
 
 use crate::arena::Arena;
 use crate::building::size_of;

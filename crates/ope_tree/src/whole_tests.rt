@@ -1,9 +1,8 @@
 use super::*;
-use mope_base::OutOfMemory;
+use mope_base::{Body, OutOfMemory};
 use path_code::{child, root};
 use std::alloc::Global;
 use tree_model::Side;
-use value_cipher::Body;
 
 // Each value after those before it, so that the tree is one way down on the right.
 fn three_ascending(alloc: Global) -> Result<Tree, OutOfMemory> {

@@ -15,7 +15,7 @@ use Rattle.workload.specs.Transaction.{Work, Trial, going, stopped, trial_of, wo
 use Rattle.workload.specs.Run.{Run, Turn, began, ready, committing, installing, number_of, version_of, position_at, moved, with_done, begun, begin_turn}
 use Rattle.workload.specs.History.{number_got, full_met, full_shown, piece_at, script_of, answers_on, full_on, effect_on, IsVersion, Repeats, HasCause}
 use Rattle.plain_db.proofs.VersionLemmas.{version-current}
-use Rattle.workload.specs.Validity.{Each}
+use Rattle.mope_base.specs.Lists.{Each}
 use Rattle.plain_db.proofs.ChainLemmas.{seen_by, seen, Numbered}
 use Rattle.plain_db.proofs.RunInvariant.{Extends, TxnHolds, place_in, base_in, Doing, SessionHolds, RunHolds}
 use Rattle.plain_db.proofs.StepLemmas.{is_over, begins, MakesVersion}

@@ -4,7 +4,7 @@ use Rattle.std.proofs.lemmas.Bool.{cases_eq, cases_lt, eq-eqb, ne_eqb}
 use Rattle.workload.specs.declared.script.DoneTxn.{DoneTxn}
 use Rattle.workload.specs.Selection.{in_front, insert_ordered, ordered}
 use Rattle.workload.specs.History.{number_got, rank_by, rank_of, comes_before}
-use Rattle.workload.specs.Validity.{Each}
+use Rattle.mope_base.specs.Lists.{Each}
 use Rattle.plain_db.proofs.EachLemmas.{each-weaker}
 use Rattle.plain_db.proofs.RankLemmas.{Sorted}
 

@@ -15,7 +15,7 @@ use Rattle.plain_db.proofs.TableOutcomes.{size}
 use Rattle.plain_db.proofs.MergeLemmas.{RepeatsOn, repeats_on}
 use Rattle.plain_db.proofs.StampLemmas.{stamps_at, none_newer, IsNewer, some_newer}
 use Rattle.plain_db.proofs.VersionLemmas.{version-new, number-next, version-current}
-use Rattle.workload.specs.Validity.{Each}
+use Rattle.mope_base.specs.Lists.{Each}
 use Rattle.plain_db.proofs.ChainLemmas.{seen_by, seen, Numbered}
 use Rattle.plain_db.proofs.RunInvariant.{Extends, TxnHolds, place_in, base_in, IsTried, Doing, SessionHolds, RunHolds}
 use Rattle.plain_db.proofs.StepLemmas.{is_over, MakesVersion}

@@ -13,7 +13,8 @@ use Rattle.workload.specs.declared.script.Piece.TheVariants as piece
 use Rattle.workload.specs.declared.script.Workload.{Workload}
 use Rattle.workload.specs.PlainDatabase.{empty_table, table_of}
 use Rattle.workload.specs.Transaction.{table_named}
-use Rattle.workload.specs.Validity.{Each, AreDistinct, IsValid, IsValidDecl, IsValidScript, IsValidPiece, IsValidAct, column_count}
+use Rattle.mope_base.specs.Lists.{Each}
+use Rattle.workload.specs.Validity.{AreDistinct, IsValid, IsValidDecl, IsValidScript, IsValidPiece, IsValidAct, column_count}
 use Rattle.plain_db.specs.Answerable.{IncreaseBelow, IsNumbered, IsNarrowAct, IsAnswerable}
 
 -- the elements from i on are enough

@@ -6,7 +6,7 @@ use Rattle.workload.specs.declared.script.Piece.{Piece}
 use Rattle.workload.specs.declared.script.Workload.{Workload}
 use Rattle.workload.specs.Run.{Run, Position, ready, number_of, position_at}
 use Rattle.workload.specs.History.{number_got, rank_of, comes_before, places_of, places_from}
-use Rattle.workload.specs.Validity.{Each}
+use Rattle.mope_base.specs.Lists.{Each}
 use Rattle.plain_db.proofs.EachLemmas.{each-append, each-weaker}
 use Rattle.plain_db.proofs.RankLemmas.{comes_before-true, Pairs, pairs-push, places-push_own, places_from-push}
 use Rattle.plain_db.proofs.ChainLemmas.{count_of, count-append, rank-lower, rank-upper}

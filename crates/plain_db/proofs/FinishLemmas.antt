@@ -10,7 +10,7 @@ use Rattle.workload.specs.Run.{Run, Position, ready, committing, installing, Sta
 use Rattle.workload.specs.History.{script_of, places_of, places_from}
 use Rattle.plain_db.proofs.TableOutcomes.{at, size}
 use Rattle.plain_db.proofs.StampLemmas.{stamps_at}
-use Rattle.workload.specs.Validity.{Each}
+use Rattle.mope_base.specs.Lists.{Each}
 use Rattle.plain_db.proofs.RankLemmas.{Pairs}
 use Rattle.plain_db.proofs.ChainLemmas.{count_of}
 use Rattle.plain_db.proofs.RunInvariant.{StoreHolds, place_in, Doing, SessionHolds, RunHolds}

@@ -11,7 +11,7 @@ use Rattle.workload.specs.declared.script.Piece.{Piece}
 use Rattle.workload.specs.declared.script.Piece.TheVariants as piece
 use Rattle.workload.specs.declared.script.Workload.{Workload}
 use Rattle.workload.specs.PlainDatabase.{empty_table, empty_database, table_of, with_table}
-use Rattle.workload.specs.Validity.{Each}
+use Rattle.mope_base.specs.Lists.{Each}
 use Rattle.workload.specs.Transaction.{Work, going, stopped, started, table_named, after_act, after_acts, trial_of, work_of, Wish, ends, commits}
 use Rattle.workload.specs.Run.{Run, Turn, Position, ready, committing, installing, number_of, version_of, initial, position_at, moved, with_done, begun, begin_turn, merged, committed_unless, commit_turn, installed_unless, install_turn, turn_from, take_turn, settled_from, settled}
 use Rattle.plain_db.specs.Answerable.{IsNumbered, IncreaseBelow}

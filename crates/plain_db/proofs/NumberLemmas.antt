@@ -10,7 +10,7 @@ use Rattle.workload.specs.declared.script.Act.TheVariants as act
 use Rattle.workload.specs.declared.script.Answer.{Answer}
 use Rattle.workload.specs.declared.script.Verb.{Verb}
 use Rattle.workload.specs.declared.script.Verb.TheVariants as verb
-use Rattle.workload.specs.Validity.{Each}
+use Rattle.mope_base.specs.Lists.{Each}
 use Rattle.workload.specs.PlainDatabase.{empty_table, table_of, with_table, is_full, with_row, kept_unless, without_row, without_rows, table_without}
 use Rattle.workload.specs.Selection.{selected}
 use Rattle.workload.specs.Outcome.{Outcome, full, answered, outcome_of, value_at}

@@ -5,7 +5,7 @@ use Rattle.workload.specs.declared.script.DoneTxn.{DoneTxn}
 use Rattle.workload.specs.declared.script.Piece.{Piece}
 use Rattle.workload.specs.Selection.{in_front, insert_ordered, ordered}
 use Rattle.workload.specs.History.{rank_of, comes_before, places_of, places_from}
-use Rattle.workload.specs.Validity.{Each}
+use Rattle.mope_base.specs.Lists.{Each}
 use Rattle.plain_db.proofs.EachLemmas.{each-append, each-weaker, each-insert, each-ordered}
 
 -- a transaction of no lower rank and, in the same session, of no lower place comes after

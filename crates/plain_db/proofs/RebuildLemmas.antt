@@ -14,7 +14,7 @@ use Rattle.workload.specs.Run.{Run, Turn, installed, found_stale, Position, inst
 use Rattle.workload.specs.History.{number_got, full_shown, piece_at, answers_on, full_on, effect_on, HasCause, IsShown, writes, lays}
 use Rattle.plain_db.proofs.StampLemmas.{stamps_at}
 use Rattle.plain_db.proofs.VersionLemmas.{version-new, number-next, version-current}
-use Rattle.workload.specs.Validity.{Each}
+use Rattle.mope_base.specs.Lists.{Each}
 use Rattle.plain_db.proofs.ChainLemmas.{seen_by, seen, Numbered}
 use Rattle.plain_db.proofs.RunInvariant.{Extends, TxnHolds, StoreHolds, place_in, base_in, IsRebuilding, Doing, SessionHolds, RunHolds}
 use Rattle.plain_db.proofs.StepLemmas.{is_over, MakesVersion}

@@ -18,7 +18,7 @@ use Rattle.workload.specs.Run.{Run, Turn, TurnKind, Position, ready, committing,
 use Rattle.workload.specs.History.{number_got, rank_of, piece_at, script_of, answers_on, full_on, effect_on, IsVersion, Repeats, places_of, places_from, writes, lays, IsShown, HasCause}
 use Rattle.plain_db.proofs.TableOutcomes.{at, size}
 use Rattle.plain_db.proofs.StampLemmas.{stamps_at}
-use Rattle.workload.specs.Validity.{Each}
+use Rattle.mope_base.specs.Lists.{Each}
 use Rattle.plain_db.proofs.RankLemmas.{Pairs}
 use Rattle.plain_db.proofs.ChainLemmas.{seen_by, seen, Numbered, count_of}
 

@@ -9,7 +9,7 @@ use Rattle.workload.specs.PlainDatabase.{empty_database}
 use Rattle.workload.specs.Selection.{ordered}
 use Rattle.workload.specs.Run.{Run, ready, number_of, version_of, initial, take_turns, finished_sessions, session_numbers, run}
 use Rattle.workload.specs.History.{number_got, rank_of, comes_before, history, kept_if, IsVersion, Repeats, database_after, EachRepeats, script_of, places_of, places_from, EachHasCause, Serial}
-use Rattle.workload.specs.Validity.{Each}
+use Rattle.mope_base.specs.Lists.{Each}
 use Rattle.plain_db.proofs.EachLemmas.{each-weaker, each-ordered}
 use Rattle.plain_db.proofs.RankLemmas.{sorted-ordered, places-ordered}
 use Rattle.plain_db.proofs.ChainLemmas.{next_of, Numbered, count-ordered, Chain, chained}

@@ -12,7 +12,8 @@ use Rattle.workload.specs.declared.script.Verb.{Verb}
 use Rattle.workload.specs.declared.script.Verb.TheVariants as verb
 use Rattle.workload.specs.declared.script.Workload.{Workload}
 use Rattle.workload.specs.PlainDatabase.{empty_table, empty_database}
-use Rattle.workload.specs.Validity.{Each, IsValid, IsValidAct, IsValidVerb, IsValidPiece, IsValidScript}
+use Rattle.mope_base.specs.Lists.{Each}
+use Rattle.workload.specs.Validity.{IsValid, IsValidAct, IsValidVerb, IsValidPiece, IsValidScript}
 use Rattle.workload.specs.Transaction.{table_named}
 use Rattle.workload.specs.Run.{Run, Turn, Position, ready, committing, installing, Stamps, number_of, version_of, position_at}
 use Rattle.workload.specs.History.{script_of}

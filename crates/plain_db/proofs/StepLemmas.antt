@@ -6,7 +6,7 @@ use Rattle.workload.specs.declared.script.DoneTxn.{DoneTxn}
 use Rattle.workload.specs.declared.script.Workload.{Workload}
 use Rattle.workload.specs.Run.{Run, Position, ready, committing, installing, number_of, position_at, with_position}
 use Rattle.workload.specs.History.{places_of}
-use Rattle.workload.specs.Validity.{Each}
+use Rattle.mope_base.specs.Lists.{Each}
 use Rattle.plain_db.proofs.EachLemmas.{each-append, each-weaker}
 use Rattle.plain_db.proofs.RankLemmas.{Pairs, places-others}
 use Rattle.plain_db.proofs.ChainLemmas.{is_number, is_number-none, is_number-same, is_number-other, count_of}

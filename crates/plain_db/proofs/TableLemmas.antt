@@ -9,7 +9,7 @@ use Rattle.workload.specs.declared.plain.PlainDb.{PlainDb}
 use Rattle.workload.specs.PlainDatabase.{table_of, with_table, is_full, kept_unless, without_row, without_rows}
 use Rattle.plain_db.specs.Answerable.{IncreaseBelow}
 use Rattle.plain_db.proofs.TableOutcomes.{with_table-same}
-use Rattle.workload.specs.Validity.{Each}
+use Rattle.mope_base.specs.Lists.{Each}
 
 pub with_table-twice : (db : PlainDb) (t : TableNo) (first second : PlainTable) → with_table (with_table db t first) t second ≡ with_table db t second
 unfolding with_table

@@ -5,7 +5,7 @@ use Rattle.mope_base.specs.declared.numbers.TableNo.{TableNo}
 use Rattle.workload.specs.declared.plain.PlainDb.{PlainDb}
 use Rattle.workload.specs.declared.script.Act.{Act}
 use Rattle.workload.specs.declared.script.Answer.{Answer}
-use Rattle.workload.specs.Validity.{Each}
+use Rattle.mope_base.specs.Lists.{Each}
 use Rattle.workload.specs.Outcome.{outcome_of}
 use Rattle.workload.specs.Transaction.{Work, going, stopped, table_named, is_op, with_op, started, after_outcome, after_act, after_acts, trial_of}
 use Rattle.plain_db.specs.declared.trying.Tried.{Tried}

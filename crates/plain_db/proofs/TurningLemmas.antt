@@ -10,7 +10,7 @@ use Rattle.workload.specs.declared.script.Answer.{Answer}
 use Rattle.workload.specs.declared.script.End.{End}
 use Rattle.workload.specs.declared.script.End.TheVariants as end
 use Rattle.workload.specs.declared.script.Piece.{Piece}
-use Rattle.workload.specs.Validity.{Each}
+use Rattle.mope_base.specs.Lists.{Each}
 use Rattle.workload.specs.Transaction.{Work, Trial, table_named, work_of, Wish, ends, commits, wish_of, wish_after}
 use Rattle.workload.specs.Run.{merged}
 use Rattle.plain_db.specs.declared.trying.Tried.{Tried}

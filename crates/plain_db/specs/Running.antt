@@ -10,7 +10,7 @@ use Rattle.workload.specs.declared.script.End.TheVariants as end
 use Rattle.workload.specs.declared.script.Piece.{Piece}
 use Rattle.workload.specs.declared.script.Piece.TheVariants as piece
 use Rattle.workload.specs.declared.script.Workload.{Workload}
-use Rattle.workload.specs.Validity.{Each}
+use Rattle.mope_base.specs.Lists.{Each}
 use Rattle.workload.specs.Transaction.{Work, table_named, trial_of, work_of, Wish, ends, commits, wish_of}
 use Rattle.workload.specs.Run.{Run, Turn, Position, ready, committing, installing, Stamps, number_of, names, merged, this_or}
 use Rattle.plain_db.specs.declared.state.Standing.{Standing}

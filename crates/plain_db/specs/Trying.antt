@@ -3,7 +3,7 @@ use Rattle.std.specs.Prelude.{◌≡◌, ℕ, ◌<◌, map}
 use Rattle.mope_base.specs.declared.numbers.TableNo.{TableNo}
 use Rattle.workload.specs.declared.plain.PlainDb.{PlainDb}
 use Rattle.workload.specs.declared.script.Act.{Act}
-use Rattle.workload.specs.Validity.{Each}
+use Rattle.mope_base.specs.Lists.{Each}
 use Rattle.workload.specs.Transaction.{Work, Trial, going, stopped, table_named}
 use Rattle.plain_db.specs.declared.trying.Tried.{Tried}
 use Rattle.plain_db.specs.Answerable.{IsNumbered, IsNarrowAct}

@@ -1,7 +1,7 @@
 //! A transaction's statements, tried on a copy of a database.
 
 ghost use Rattle.std.specs.Prelude.{◌≡◌, ◌++◌, ◌∷◌, [], length, Some, None, IfOk, OnOk, IsTrue, MatchOption, if◌then◌else◌};
-ghost use Rattle.workload.specs.Validity.{Each};
+ghost use Rattle.mope_base.specs.Lists.{Each};
 ghost use Rattle.workload.specs.Transaction.{table_named, is_op, going, started, after_act, trial_of, Work};
 ghost use Rattle.plain_db.specs.Answerable.{IsAnswerable};
 ghost use Rattle.plain_db.specs.Trying.{ShowsWork, Goes, Stops, AllNumbered, Fits};

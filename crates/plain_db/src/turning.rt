@@ -2,7 +2,7 @@
 
 ghost use Rattle.std.specs.Prelude.{◌≡◌, ◌<◌, ◌≤◌, ◌^◌, ◌+◌, suc, max, Bool, ltb, length, get_or, drop, map, List, [], Some, None, OnOk};
 ghost use Rattle.workload.specs.declared.script.Act.{Act};
-ghost use Rattle.workload.specs.Validity.{Each};
+ghost use Rattle.mope_base.specs.Lists.{Each};
 ghost use Rattle.plain_db.specs.declared.state.Place.{Place as PlaceValue};
 ghost use Rattle.workload.specs.Transaction.{table_named, wish_of, wish_after, work_of, trial_of};
 ghost use Rattle.plain_db.specs.Trying.{AllNumbered, Fits};

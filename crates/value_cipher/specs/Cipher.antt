@@ -2,7 +2,7 @@
 -- its 32 bytes.
 use Rattle.std.specs.Prelude.{◌≡◌, ℕ, ◌+◌, ◌-◌, ◌*◌, ◌^◌, ◌<◌, ◌≤◌, List, bit_xor}
 use Rattle.value_cipher.specs.Block.{block_word}
-use Rattle.value_cipher.specs.declared.Body.{Body}
+use Rattle.mope_base.specs.declared.body.Body.{Body}
 
 -- the first 64 bits of block 0 of the stream that the nonce names
 unfoldable pub pad_of : List ℕ → ℕ → ℕ

@@ -11,6 +11,7 @@ ghost use Rattle.value_cipher.specs.Cipher.{pad_of, seal_of, unseal_of, nonce_at
 pub mod laws;
 
 use hex::FromHex;
+pub use mope_base::Body;
 use rand_chacha::ChaCha20Rng;
 use rand_core::SeedableRng;
 use rand_core::utils::NextWord;
@@ -19,13 +20,6 @@ use rand_core::utils::NextWord;
 #[derive(Clone, Copy, Debug, PartialEq, Eq)]
 pub struct Key {
     pub bytes: [u8; 32],
-}
-
-/// A hidden value: the nonce of its pad, and the value with the pad added bit by bit.
-#[derive(Clone, Copy, Debug, PartialEq, Eq)]
-pub struct Body {
-    pub nonce: u64,
-    pub masked: u64,
 }
 
 impl Key {

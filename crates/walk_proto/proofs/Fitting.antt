@@ -1,6 +1,6 @@
 -- One more body whose words fit.
 use Rattle.std.proofs.Common.{◌<◌, ◌^◌, List, [], ◌∷◌, ◌++◌}
-use Rattle.value_cipher.specs.declared.Body.{Body}
+use Rattle.mope_base.specs.declared.body.Body.{Body}
 use Rattle.walk_proto.specs.Shapes.{BodiesFit}
 
 pub fits_push : (bodies : List Body) (body : Body) → BodiesFit bodies → body.nonce < 2 ^ 64 → body.masked < 2 ^ 64 → BodiesFit (bodies ++ body ∷ [])

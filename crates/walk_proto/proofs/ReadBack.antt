@@ -12,7 +12,7 @@ use Rattle.mope_base.specs.declared.numbers.ColNo.{ColNo}
 use Rattle.mope_base.specs.declared.numbers.TableNo.{TableNo}
 use Rattle.tree_model.specs.declared.Side.{Side}
 use Rattle.tree_model.specs.declared.Side.TheVariants.{Left, Right}
-use Rattle.value_cipher.specs.declared.Body.{Body}
+use Rattle.mope_base.specs.declared.body.Body.{Body}
 use Rattle.walk_proto.specs.Faults.{at}
 use Rattle.walk_proto.specs.Rules.{IsRequest, IsReply, is_asked, is_rows}
 use Rattle.walk_proto.specs.Shapes.{BodiesFit, RequestFits, ReplyFits}

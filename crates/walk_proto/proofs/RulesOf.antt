@@ -7,7 +7,7 @@ use Rattle.std.proofs.Math.Seq.{drop-append-add, get_or-append_seam, take-append
 use Rattle.byteorder.specs.Endian.{big_number, big_bytes}
 use Rattle.byteorder.specs.Numbers.{big_from-bytes, big_number-reads_back}
 use Rattle.std.proofs.lemmas.Bool.{lt-ltb}
-use Rattle.value_cipher.specs.declared.Body.{Body}
+use Rattle.mope_base.specs.declared.body.Body.{Body}
 use Rattle.walk_proto.specs.Shapes.{ReplyFits}
 use Rattle.walk_proto.specs.Faults.{at, first_wrong, fields_by, request_fault, reply_fault, insert_fields, rows_fields, ended_fields, no_fields, query_fields, query_head_fields, query_column_fields, query_cond_fields, op_fields}
 use Rattle.walk_proto.specs.Kinds.{row, request_kinds, reply_kinds}

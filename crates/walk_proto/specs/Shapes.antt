@@ -1,7 +1,7 @@
 -- What is known of bytes without a fault, by their kind, and the words of messages that fit their bytes.
 use Rattle.std.specs.Prelude.{◌≡◌, ◌≤◌, ◌<◌, ℕ, ◌+◌, ◌-◌, ◌*◌, ◌^◌, List, [], ◌∷◌, length, take, drop, replicate, Option, None, Some, IfSome}
 use Rattle.byteorder.specs.Endian.{big_number}
-use Rattle.value_cipher.specs.declared.Body.{Body}
+use Rattle.mope_base.specs.declared.body.Body.{Body}
 use Rattle.walk_proto.specs.Faults.{at}
 use Rattle.walk_proto.specs.declared.faults.WireStop.{WireStop}
 use Rattle.walk_proto.specs.declared.faults.WireStop.TheVariants.{Short, Kind, Length, Value, OutOfMemory}

@@ -4,7 +4,7 @@ use Rattle.std.specs.List.{flat_map}
 use Rattle.byteorder.specs.Endian.{big_bytes}
 use Rattle.tree_model.specs.declared.Side.{Side}
 use Rattle.tree_model.specs.declared.Side.TheVariants.{Left, Right}
-use Rattle.value_cipher.specs.declared.Body.{Body}
+use Rattle.mope_base.specs.declared.body.Body.{Body}
 use Rattle.walk_proto.specs.declared.messages.Asked.{Asked}
 use Rattle.walk_proto.specs.declared.messages.How.{How}
 use Rattle.walk_proto.specs.declared.messages.How.TheVariants.{Began, Closed, Committed, Conflict, Installed, Stale}

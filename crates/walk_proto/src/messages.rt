@@ -1,7 +1,6 @@
 //! Requests and replies.
-use mope_base::{ColNo, Items, TableNo};
+use mope_base::{Body, ColNo, Items, TableNo};
 use path_code::Side;
-use value_cipher::Body;
 
 /// What the proxy asks of the server.
 #[derive(Debug, Drop)]

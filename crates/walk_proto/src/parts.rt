@@ -8,10 +8,9 @@ ghost use Rattle.walk_proto.specs.Spelling.{body_bytes, columns_bytes, cond_byte
 
 use crate::messages::How;
 use case_tables::take_fields;
-use mope_base::{Items, OutOfMemory};
+use mope_base::{Body, Items, OutOfMemory};
 use path_code::Side;
 use std::alloc::Global;
-use value_cipher::Body;
 
 pub(crate) fn side_of(byte: u8) -> Side
     requires { byte ≤ 1 }

@@ -7,10 +7,9 @@ ghost use Rattle.walk_proto.specs.Spelling.{asked_bytes, body_bytes, columns_byt
 
 use crate::messages::{Asked, How, Reply, Request};
 use case_tables::put_fields;
-use mope_base::{Items, OutOfMemory};
+use mope_base::{Body, Items, OutOfMemory};
 use path_code::Side;
 use std::alloc::Global;
-use value_cipher::Body;
 
 /// The bytes of a request. It must be one that some bytes give.
 pub fn write_request(alloc: Global, r: &Request) -> Result<Items<u8>, OutOfMemory>

@@ -1,5 +1,6 @@
 -- When a workload is valid: what its file's reader lets through, and the limits. The rules are our own.
 use Rattle.std.specs.Prelude.{◌≡◌, ℕ, ◌^◌, ◌<◌, ◌≤◌, Bool, List, [], ◌∷◌, map, length, get_or, Option, Some, None}
+use Rattle.mope_base.specs.Lists.{Each}
 use Rattle.mope_base.specs.declared.numbers.TableNo.{TableNo}
 use Rattle.mope_base.specs.declared.numbers.ColNo.{ColNo}
 use Rattle.sql_text.specs.declared.Name.{Name}
@@ -12,11 +13,6 @@ use Rattle.workload.specs.declared.script.Piece.TheVariants as piece
 use Rattle.workload.specs.declared.script.Verb.{Verb}
 use Rattle.workload.specs.declared.script.Verb.TheVariants as verb
 use Rattle.workload.specs.declared.script.Workload.{Workload}
-
--- each element of a list
-unfoldable pub Each : {A : Type 0} → (A → Type 0) → List A → Type 0
-Each P [] = Unit {0}
-Each P (x ∷ xs) = P x × Each P xs
 
 -- no name stands twice
 unfoldable pub AreDistinct : List Name → Type 0

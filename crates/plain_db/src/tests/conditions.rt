@@ -1,7 +1,8 @@
 //! Tests of what the calls require. The names of at most two columns are compared.
 
 ghost use Rattle.std.specs.Prelude.{◌≡◌, ◌≤◌, ◌<◌, length, IsTrue};
-ghost use Rattle.workload.specs.Validity.{Each, AreDistinct, IsValid, IsValidDecl, IsValidScript, IsValidPiece, IsValidAct, IsValidVerb, IsColumn, IsOrderColumn, column_count};
+ghost use Rattle.mope_base.specs.Lists.{Each};
+ghost use Rattle.workload.specs.Validity.{AreDistinct, IsValid, IsValidDecl, IsValidScript, IsValidPiece, IsValidAct, IsValidVerb, IsColumn, IsOrderColumn, column_count};
 ghost use Rattle.plain_db.specs.Answerable.{IsAnswerable, IsNarrowAct, IncreaseBelow};
 
 use crate::trying::table_of_act;

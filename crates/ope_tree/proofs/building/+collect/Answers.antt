@@ -1,7 +1,7 @@
 use Rattle.std.proofs.Common.{◌≡◌, ◌++◌, [], ◌∷◌, ℕ, suc, Option, List, arith, sym, ap, ◌∙◌, subst, append-nil}
 use Rattle.tree_model.specs.Trees.{Tree, inorder}
 use Rattle.tree_model.specs.Items.{Item}
-use Rattle.value_cipher.specs.declared.Body.{Body}
+use Rattle.mope_base.specs.declared.body.Body.{Body}
 use Rattle.ope_tree.specs.declared.nodes.Entry.{Entry}
 use Rattle.ope_tree.specs.Nodes.{IsLink, item_of, items_of_entries, tree_of, reach}
 use Rattle.ope_tree.proofs.Builders.{tree_by-none, reach-older, collected}

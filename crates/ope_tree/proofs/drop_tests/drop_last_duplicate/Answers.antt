@@ -1,5 +1,5 @@
 use Rattle.std.proofs.Common.{◌≡◌, ap, arith}
-use Rattle.value_cipher.specs.declared.Body.{Body}
+use Rattle.mope_base.specs.declared.body.Body.{Body}
 use Rattle.tree_model.specs.Columns.{empty_column}
 use Rattle.ope_tree.specs.Seen.{Seen, empty_seen}
 use Rattle.ope_tree.proofs.OneItem.{after-first, after-more, after-third_goes, after-second_goes, place-first, place-found, size-none, size-one, count-one}

@@ -1,5 +1,5 @@
 use Rattle.std.proofs.Common.{false, ap, ◌∙◌, sym, subst}
-use Rattle.value_cipher.specs.declared.Body.{Body}
+use Rattle.mope_base.specs.declared.body.Body.{Body}
 use Rattle.tree_model.specs.Trees.{Tree, inorder}
 use Rattle.tree_model.specs.Items.{Item, live}
 use Rattle.tree_model.specs.Columns.{Column}

@@ -8,7 +8,7 @@ use Rattle.tree_model.proofs.LiveItems.{live-le}
 use Rattle.tree_model.proofs.Ways.{length-inorder}
 use Rattle.code_changes.proofs.Leading.{same_sum}
 use Rattle.code_changes.proofs.Staying.{found_raises_count}
-use Rattle.value_cipher.specs.declared.Body.{Body}
+use Rattle.mope_base.specs.declared.body.Body.{Body}
 use Rattle.ope_tree.specs.declared.nodes.Entry.{Entry}
 use Rattle.ope_tree.specs.Nodes.{item_of, tree_of}
 use Rattle.ope_tree.specs.Seen.{column_of}

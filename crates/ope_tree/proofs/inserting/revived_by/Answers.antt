@@ -1,7 +1,7 @@
 use Rattle.std.proofs.Common.{[], arith}
 use Rattle.tree_model.specs.Items.{one_more}
 use Rattle.tree_model.proofs.LiveItems.{live-yes, live-no, live-nil}
-use Rattle.value_cipher.specs.declared.Body.{Body}
+use Rattle.mope_base.specs.declared.body.Body.{Body}
 use Rattle.ope_tree.specs.Nodes.{item_of}
 use Rattle.ope_tree.proofs.inserting.revived_by.Goals as goal
 

@@ -12,7 +12,7 @@ use Rattle.tree_model.proofs.Ways.{length-inorder}
 use Rattle.path_code.specs.Ways.{way}
 use Rattle.path_code.specs.Sums.{Sum}
 use Rattle.code_changes.proofs.Leading.{same_sum}
-use Rattle.value_cipher.specs.declared.Body.{Body}
+use Rattle.mope_base.specs.declared.body.Body.{Body}
 use Rattle.ope_tree.specs.Nodes.{item_of, tree_of}
 use Rattle.ope_tree.specs.Seen.{column_of}
 use Rattle.ope_tree.proofs.InsertionSteps.{column_added, live_added, insert-tall, graft-low, change_alone, change_settled, path_len, not_deeper}

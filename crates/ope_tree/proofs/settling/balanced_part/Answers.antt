@@ -3,7 +3,7 @@ use Rattle.tree_model.specs.Trees.{Tree, balanced, inorder, size, height}
 use Rattle.tree_model.specs.Items.{Item}
 use Rattle.tree_model.proofs.Halves.{size-balanced}
 use Rattle.tree_model.proofs.Ways.{length-inorder}
-use Rattle.value_cipher.specs.declared.Body.{Body}
+use Rattle.mope_base.specs.declared.body.Body.{Body}
 use Rattle.path_code.specs.Ways.{way}
 use Rattle.code_changes.specs.Changes.{differing}
 use Rattle.ope_tree.specs.Listed.{codes_along}

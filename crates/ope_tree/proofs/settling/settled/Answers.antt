@@ -3,7 +3,7 @@ use Rattle.tree_model.specs.declared.Place.TheVariants.{Found}
 use Rattle.tree_model.specs.Trees.{Tree, balanced, inorder, path}
 use Rattle.tree_model.specs.Items.{Item}
 use Rattle.tree_model.specs.Insertion.{tree_at, put_at, balanced_at}
-use Rattle.value_cipher.specs.declared.Body.{Body}
+use Rattle.mope_base.specs.declared.body.Body.{Body}
 use Rattle.ope_tree.specs.Nodes.{item_of, tree_of}
 use Rattle.ope_tree.proofs.Builders.{built_same, built_after}
 use Rattle.ope_tree.proofs.Links.{IsLink-extended, tree_by-extended}

@@ -1,7 +1,7 @@
 use Rattle.std.proofs.Common.{ℕ, Option, ap, ◌∙◌, subst}
 use Rattle.tree_model.specs.Trees.{Tree}
 use Rattle.tree_model.specs.Items.{Item}
-use Rattle.value_cipher.specs.declared.Body.{Body}
+use Rattle.mope_base.specs.declared.body.Body.{Body}
 use Rattle.ope_tree.specs.Nodes.{IsLink, item_of, tree_of}
 use Rattle.ope_tree.specs.Standing.{root_item}
 use Rattle.ope_tree.proofs.stops.stop_of.Goals as goal

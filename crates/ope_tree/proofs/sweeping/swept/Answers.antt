@@ -1,5 +1,5 @@
 use Rattle.std.proofs.Common.{◌∙◌, sym, subst, ◌≤◌, arith}
-use Rattle.value_cipher.specs.declared.Body.{Body}
+use Rattle.mope_base.specs.declared.body.Body.{Body}
 use Rattle.tree_model.specs.Trees.{Tree, height}
 use Rattle.tree_model.specs.Items.{Item}
 use Rattle.ope_tree.specs.Nodes.{tree_of}

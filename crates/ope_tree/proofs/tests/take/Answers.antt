@@ -1,6 +1,6 @@
 use Rattle.std.proofs.Common.{◌%◌, ℕ, Option, ap, ◌∙◌, arith}
 use Rattle.std.specs.Option.{option_map}
-use Rattle.value_cipher.specs.declared.Body.{Body}
+use Rattle.mope_base.specs.declared.body.Body.{Body}
 use Rattle.ope_tree.specs.Conditions.{paired}
 use Rattle.ope_tree.proofs.InsertionSteps.{count_there}
 use Rattle.ope_tree.proofs.tests.take.Goals as goal

@@ -4,7 +4,7 @@ use Rattle.tree_model.specs.declared.Side.TheVariants.{Left, Right}
 use Rattle.tree_model.specs.Trees.{Tree}
 use Rattle.tree_model.specs.Items.{Item}
 use Rattle.tree_model.specs.Insertion.{child}
-use Rattle.value_cipher.specs.declared.Body.{Body}
+use Rattle.mope_base.specs.declared.body.Body.{Body}
 use Rattle.ope_tree.specs.Seen.{Seen}
 use Rattle.ope_tree.specs.Standing.{IsNamed, StandsAt}
 use Rattle.ope_tree.proofs.Stopping.{named_within, turned}

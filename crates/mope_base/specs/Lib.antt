@@ -2,6 +2,7 @@
 pub mod Faults
 pub mod InMemory
 pub mod Lists
+pub mod Modes
 pub mod OverStd
 pub mod ReadAll
 pub mod StatusCode

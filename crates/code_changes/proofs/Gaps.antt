@@ -9,7 +9,8 @@ use Rattle.tree_model.specs.Places.{holds}
 use Rattle.tree_model.specs.Columns.{Column, add, Add, apply, apply_all}
 use Rattle.tree_model.specs.Sums.{origins}
 use Rattle.tree_model.proofs.Summed.{origins-gap, length-origins}
-use Rattle.path_code.specs.Sums.{item_code, moved_codes, added_codes, is_origin, dropped_codes, sum_by_origins, sum_of}
+use Rattle.tree_model.specs.Carried.{is_origin}
+use Rattle.path_code.specs.Sums.{item_code, moved_codes, added_codes, dropped_codes, sum_by_origins, sum_of}
 use Rattle.code_changes.specs.Changes.{differing, with_rows, without_rows}
 use Rattle.code_changes.specs.Columns.{codes_of}
 use Rattle.code_changes.specs.Laws.{AddsItem}

@@ -7,7 +7,8 @@ use Rattle.tree_model.specs.Trees.{Tree}
 use Rattle.tree_model.specs.Places.{holds, IsBelowAll, IsIncreasing}
 use Rattle.tree_model.specs.Sums.{IsRising}
 use Rattle.tree_model.proofs.Ordered.{holds-cons_ne}
-use Rattle.path_code.specs.Sums.{item_code, unless, moved_codes, added_codes, is_origin, dropped_codes}
+use Rattle.tree_model.specs.Carried.{is_origin}
+use Rattle.path_code.specs.Sums.{item_code, unless, moved_codes, added_codes, dropped_codes}
 use Rattle.code_changes.specs.Changes.{differing, with_rows, without_rows}
 use Rattle.code_changes.proofs.Lists.{holds-nil, same_members, ranks-up, holds-ranks}
 use Rattle.code_changes.proofs.Rows.{IsIncreasing-with}

@@ -12,7 +12,8 @@ use Rattle.tree_model.proofs.Ways.{length-inorder}
 use Rattle.tree_model.proofs.Changes.{length-change_at}
 use Rattle.tree_model.proofs.Ordered.{holds-none}
 use Rattle.tree_model.proofs.Summed.{length-origins}
-use Rattle.path_code.specs.Sums.{item_code, moved_codes, added_codes, is_origin, dropped_codes, sum_by_origins, sum_of}
+use Rattle.tree_model.specs.Carried.{is_origin}
+use Rattle.path_code.specs.Sums.{item_code, moved_codes, added_codes, dropped_codes, sum_by_origins, sum_of}
 use Rattle.code_changes.specs.Changes.{differing, with_rows, without_rows}
 use Rattle.code_changes.specs.Columns.{codes_of, counts_of, lowered}
 use Rattle.code_changes.specs.Laws.{KeepsLive}

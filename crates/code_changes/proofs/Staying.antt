@@ -21,7 +21,8 @@ use Rattle.tree_model.proofs.LiveItems.{drop_item-ordinary}
 use Rattle.tree_model.proofs.Kept.{items-add, items-lay, items-drop, inorder-fewer}
 use Rattle.tree_model.proofs.Summed.{origins-nothing}
 use Rattle.path_code.specs.Codes.{code_of}
-use Rattle.path_code.specs.Sums.{item_code, moved_codes, added_codes, is_origin, dropped_codes, sum_by_origins, sum_of}
+use Rattle.tree_model.specs.Carried.{is_origin}
+use Rattle.path_code.specs.Sums.{item_code, moved_codes, added_codes, dropped_codes, sum_by_origins, sum_of}
 use Rattle.path_code.proofs.Sums.{added-none, dropped-none}
 use Rattle.code_changes.specs.Changes.{differing, with_rows}
 use Rattle.code_changes.specs.Columns.{codes_of, counts_of, raised, lowered}

@@ -11,7 +11,8 @@ use Rattle.tree_model.proofs.Blind.{apply_all-map}
 use Rattle.tree_model.proofs.Summed.{origins-map}
 use Rattle.path_code.specs.Codes.{code_of}
 use Rattle.path_code.specs.declared.moves.Recode.{Recode}
-use Rattle.path_code.specs.Sums.{item_code, unless, moved_codes, added_codes, is_origin, dropped_codes, Sum, sum_by_origins, sum_of}
+use Rattle.tree_model.specs.Carried.{is_origin}
+use Rattle.path_code.specs.Sums.{item_code, unless, moved_codes, added_codes, dropped_codes, Sum, sum_by_origins, sum_of}
 
 pub item_code-map : {A B : Type 0} (f : A → B) (t : Tree A) (rank : ℕ) → item_code (map_tree f t) rank ≡ item_code t rank
 unfolding item_code

@@ -10,7 +10,8 @@ use Rattle.tree_model.proofs.Risen.{origins-rising}
 use Rattle.tree_model.proofs.Summed.{length-origins}
 use Rattle.path_code.specs.Codes.{code_of}
 use Rattle.path_code.specs.declared.moves.Recode.{Recode}
-use Rattle.path_code.specs.Sums.{item_code, unless, moved_codes, added_codes, is_origin, dropped_codes, sum_by_origins, sum_of}
+use Rattle.tree_model.specs.Carried.{is_origin}
+use Rattle.path_code.specs.Sums.{item_code, unless, moved_codes, added_codes, dropped_codes, sum_by_origins, sum_of}
 use Rattle.path_code.specs.SumLaws.{Increase}
 use Rattle.path_code.proofs.Rising.{codes_rise}
 

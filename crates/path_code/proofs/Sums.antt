@@ -18,7 +18,8 @@ use Rattle.tree_model.proofs.GraftPaths.{insert-stays}
 use Rattle.path_code.specs.Codes.{code_of}
 use Rattle.path_code.specs.Laws.{code_in}
 use Rattle.path_code.specs.declared.moves.Recode.{Recode}
-use Rattle.path_code.specs.Sums.{item_code, unless, moved_codes, added_codes, is_origin, dropped_codes, Sum, sum_by_origins, sum_of}
+use Rattle.tree_model.specs.Carried.{is_origin}
+use Rattle.path_code.specs.Sums.{item_code, unless, moved_codes, added_codes, dropped_codes, Sum, sum_by_origins, sum_of}
 
 pub sum_of-append : {B : Type 0} (same_time : Bool) (earlier later : List (Operation B)) (c : Column B) → sum_of same_time (earlier ++ later) c ≡ sum_by_origins c.tree (apply_all same_time later (apply_all same_time earlier c)).tree (composed (origins same_time earlier c) (origins same_time later (apply_all same_time earlier c)))
 unfolding sum_of

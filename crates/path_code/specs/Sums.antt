@@ -6,6 +6,7 @@ use Rattle.tree_model.specs.declared.Place.TheVariants.{Found}
 use Rattle.tree_model.specs.Trees.{Tree, size, path}
 use Rattle.tree_model.specs.Columns.{Column, Operation, apply_all}
 use Rattle.tree_model.specs.Sums.{origins}
+use Rattle.tree_model.specs.Carried.{is_origin}
 use Rattle.path_code.specs.Codes.{code_of}
 use Rattle.path_code.specs.declared.moves.Recode.{Recode}
 
@@ -28,11 +29,6 @@ unfoldable pub added_codes : {B : Type 0} → Tree B → ℕ → List (Option �
 added_codes u rank [] = []
 added_codes u rank (None ∷ from) = item_code u rank ∷ added_codes u (suc rank) from
 added_codes u rank (Some k ∷ from) = added_codes u (suc rank) from
-
-unfoldable pub is_origin : ℕ → List (Option ℕ) → Bool
-is_origin k [] = false
-is_origin k (None ∷ from) = is_origin k from
-is_origin k (Some j ∷ from) = (j == k) || is_origin k from
 
 -- the codes in t of those of these ranks from which no item of u comes
 unfoldable pub dropped_codes : {A : Type 0} → Tree A → List (Option ℕ) → List ℕ → List ℕ

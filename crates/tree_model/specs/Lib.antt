@@ -6,6 +6,7 @@ pub mod Insertion
 pub mod Removal
 pub mod Columns
 pub mod Sums
+pub mod Carried
 pub mod ColumnLaws
 pub mod Parts
 pub mod Laws

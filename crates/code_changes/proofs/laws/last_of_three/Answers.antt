@@ -8,7 +8,8 @@ use Rattle.tree_model.specs.Removal.{by_side, change_tree}
 use Rattle.tree_model.specs.Columns.{empty_column, items_of, whole, add, taken_out, shrunk, pruned, fewer, drop_one, apply, apply_all, map_operation}
 use Rattle.tree_model.specs.Sums.{bodies, tag, tagged, tagged_column, blank, origins}
 use Rattle.path_code.specs.Codes.{bit, spelled, code_within, code_of}
-use Rattle.path_code.specs.Sums.{item_code, unless, moved_codes, added_codes, is_origin, dropped_codes, sum_by_origins, sum_of}
+use Rattle.tree_model.specs.Carried.{is_origin}
+use Rattle.path_code.specs.Sums.{item_code, unless, moved_codes, added_codes, dropped_codes, sum_by_origins, sum_of}
 use Rattle.code_changes.specs.Changes.{new_if, new_code, none_if, applied, with_some, images, put_at_place, put, put_all, list_after}
 use Rattle.code_changes.specs.Columns.{codes_of, counts_of}
 use Rattle.code_changes.specs.Laws.{two_of_three}

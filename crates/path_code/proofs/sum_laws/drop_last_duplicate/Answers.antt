@@ -7,7 +7,8 @@ use Rattle.tree_model.specs.Removal.{by_side, change_tree, first_or, without_fir
 use Rattle.tree_model.specs.Columns.{empty_column, items_of, whole, add, taken_out, shrunk, pruned, fewer, drop_one, lay, apply, apply_all, map_operation}
 use Rattle.tree_model.specs.Sums.{bodies, tag, tagged, tagged_column, blank, origins}
 use Rattle.path_code.specs.Codes.{bit, spelled, code_within, code_of}
-use Rattle.path_code.specs.Sums.{item_code, unless, moved_codes, added_codes, is_origin, dropped_codes, sum_by_origins, sum_of}
+use Rattle.tree_model.specs.Carried.{is_origin}
+use Rattle.path_code.specs.Sums.{item_code, unless, moved_codes, added_codes, dropped_codes, sum_by_origins, sum_of}
 use Rattle.path_code.specs.SumLaws.{DropsLast}
 use Rattle.path_code.proofs.sum_laws.drop_last_duplicate.Goals as goal
 

@@ -1,3 +1,4 @@
+//! The reading of a whole input.
 ghost use Rattle.std.specs.Prelude.{◌≡◌, ℕ, ◌+◌, ◌-◌, ◌<◌, ◌≤◌, ◌++◌, IfOk, IfErr, IfSome, MatchResult, length, take, vec_len};
 ghost use Rattle.std.specs.Io.KnownBytes.{ReadConsumes};
 ghost use Rattle.mope_base.specs.Faults.{HasCause};

@@ -18,3 +18,6 @@ pub mod Risen
 pub mod Parts
 pub mod Outside
 pub mod ColumnOrder
+pub mod CarriedRanks
+pub mod RankSteps
+pub mod RankLaws

@@ -13,4 +13,5 @@ pub mod ColumnLaws
 pub mod Parts
 pub mod Walks
 pub mod RowLaws
+pub mod TallyLaws
 pub mod Laws

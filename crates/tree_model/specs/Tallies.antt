@@ -1,5 +1,5 @@
 -- How many rows have each of some increasing keys. A key is what a row has of a column: its value, or the code of its item.
-use Rattle.std.specs.Prelude.{◌≡◌, ℕ, suc, zero, ◌-◌, Bool, true, ◌==◌, List, [], ◌∷◌, map}
+use Rattle.std.specs.Prelude.{◌≡◌, ℕ, suc, zero, ◌-◌, true, ◌==◌, List, [], ◌∷◌, map}
 use Rattle.tree_model.specs.Places.{one_if, holds, IsIncreasing}
 use Rattle.tree_model.specs.Items.{Item, values, change_at}
 

@@ -1,11 +1,11 @@
 -- The walk to a value's place in a tree of items in the order of their values: at each item it compares and turns.
-use Rattle.std.specs.Prelude.{◌≡◌, ℕ, suc, ◌<◌, nat_lt, List, [], map, get_or}
+use Rattle.std.specs.Prelude.{◌≡◌, ℕ, ◌<◌, nat_lt, List, [], map, get_or}
 use Rattle.tree_model.specs.declared.Side.{Side}
 use Rattle.tree_model.specs.declared.Side.TheVariants.{Left, Right}
 use Rattle.tree_model.specs.declared.Place.{Place}
 use Rattle.tree_model.specs.declared.Place.TheVariants.{Found, Gap}
-use Rattle.tree_model.specs.Trees.{Tree, leaf, node, inorder, side_by, onward, path}
-use Rattle.tree_model.specs.Places.{place}
+use Rattle.tree_model.specs.Trees.{Tree, leaf, node, inorder, path, side_by, onward}
+use Rattle.tree_model.specs.Places.{place, IsIncreasing}
 use Rattle.tree_model.specs.Parts.{LeadsToItem, LeadsToGap}
 
 -- x lies on this side of another value
@@ -27,3 +27,11 @@ place_in v t x = place (map v (inorder t)) x
 unfoldable pub LeadsTo : {A : Type 0} → A → Tree A → List Side → Place → Type 0
 LeadsTo {A} d t way (Found rank) = LeadsToItem A t way rank (get_or (inorder t) rank d)
 LeadsTo {A} d t way (Gap rank) = LeadsToGap A t way rank
+
+-- the walk goes the way to the value's place, and ends at what stands there
+pub record GoesToPlace (A : Type 0) (v : A → ℕ) (t : Tree A) (x : ℕ) (d : A) : Type 0 where
+  pub way_is : walk v t x ≡ path t (place_in v t x)
+  pub leads : LeadsTo d t (walk v t x) (place_in v t x)
+
+abbrev pub WalkGoesToPlace : Type 0 → Type 0
+WalkGoesToPlace A = (v : A → ℕ) (t : Tree A) (x : ℕ) (d : A) → IsIncreasing (map v (inorder t)) → GoesToPlace A v t x d

@@ -21,3 +21,5 @@ pub mod ColumnOrder
 pub mod CarriedRanks
 pub mod RankSteps
 pub mod RankLaws
+pub mod TalliedRows
+pub mod TalliedItems

@@ -23,3 +23,5 @@ pub mod RankSteps
 pub mod RankLaws
 pub mod TalliedRows
 pub mod TalliedItems
+pub mod SplitPlaces
+pub mod Walked

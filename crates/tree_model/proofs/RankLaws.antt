@@ -50,7 +50,7 @@ carried_appends same_time earlier later c rank =
 -- ---- operation by operation
 
 -- the ranks themselves
-own_ranks : (n rank : ℕ) → rank < n → RankIs rank (map Some (range_with_len 0 n)) true rank
+pub own_ranks : (n rank : ℕ) → rank < n → RankIs rank (map Some (range_with_len 0 n)) true rank
 own_ranks n rank h =
     let at = carried-ranks 0 n rank h in
     let e : 0 + rank ≡ rank = omega arith in
@@ -64,7 +64,7 @@ carried_of_nothing same_time c rank h =
     subst (λ (from : List (Option ℕ)). RankIs rank from true rank) (sym (origins-nothing same_time c)) (own_ranks (size c.tree) rank h)
 
 -- the ranks in place of the bodies
-bodies-start : {B : Type 0} (c : Column B) → bodies (items_of (tagged_column c)) ≡ map Some (range_with_len 0 (size c.tree))
+pub bodies-start : {B : Type 0} (c : Column B) → bodies (items_of (tagged_column c)) ≡ map Some (range_with_len 0 (size c.tree))
 unfolding origins blank apply_all
 bodies-start c = origins-nothing false c
 
@@ -127,7 +127,7 @@ rank_after_operation same_time (Add p b) c rank h = added same_time p b c rank h
 rank_after_operation same_time (Drop at) c rank h = dropped same_time at c rank h
 rank_after_operation same_time Lay c rank h = laid same_time c rank h
 
-apply_one : {B : Type 0} (same_time : Bool) (operation : Operation B) (c : Column B) → apply_all same_time (operation ∷ []) c ≡ apply same_time operation c
+pub apply_one : {B : Type 0} (same_time : Bool) (operation : Operation B) (c : Column B) → apply_all same_time (operation ∷ []) c ≡ apply same_time operation c
 unfolding apply_all
 apply_one same_time operation c = refl
 
@@ -164,7 +164,7 @@ rank_after_operations {B} same_time (operation ∷ operations) c rank h =
 
 -- ---- values
 
-values-at : {B : Type 0} (v : B → ℕ) (items : List (Item B)) (k d : ℕ) (b : B) → k < length items → get_or (values v items) k d ≡ v (get_or (bodies items) k b)
+pub values-at : {B : Type 0} (v : B → ℕ) (items : List (Item B)) (k d : ℕ) (b : B) → k < length items → get_or (values v items) k d ≡ v (get_or (bodies items) k b)
 unfolding values bodies
 values-at v [] k d b h = absurd (omega arith)
 values-at v (x ∷ items) zero d b h = refl
@@ -175,11 +175,11 @@ one_of : {A : Type 0} (xs : List A) (k : ℕ) → k < length xs → A
 one_of [] k h = absurd (omega arith)
 one_of (x ∷ xs) k h = x
 
-length-items : {B : Type 0} (c : Column B) → length (items_of c) ≡ size c.tree
+pub length-items : {B : Type 0} (c : Column B) → length (items_of c) ≡ size c.tree
 unfolding items_of
 length-items c = length-inorder c.tree
 
-length-values : {B : Type 0} (v : B → ℕ) (items : List (Item B)) → length (values v items) ≡ length items
+pub length-values : {B : Type 0} (v : B → ℕ) (items : List (Item B)) → length (values v items) ≡ length items
 unfolding values
 length-values v [] = refl
 length-values v (x ∷ items) = ap suc (length-values v items)
@@ -207,7 +207,7 @@ alive [] rank d h some = absurd (omega arith)
 alive (x ∷ items) zero d h some = let e = lt-ltb 0 x.count some in rw e refl
 alive (x ∷ items) (suc rank) d h some = alive items rank d (omega arith) some
 
-get-remove_other : {A : Type 0} (xs : List A) (at rank : ℕ) → rank < length xs → rank ≢ at → slice_get (remove xs at) (one_lower (ltb at rank) rank) ≡ slice_get xs rank
+pub get-remove_other : {A : Type 0} (xs : List A) (at rank : ℕ) → rank < length xs → rank ≢ at → slice_get (remove xs at) (one_lower (ltb at rank) rank) ≡ slice_get xs rank
 get-remove_other [] at rank h other = absurd (omega arith)
 get-remove_other (x ∷ xs) zero zero h other = absurd (other refl)
 get-remove_other (x ∷ xs) zero (suc rank) h other = ap (slice_get xs) (lower_first rank)
@@ -251,13 +251,13 @@ rows_keep_item same_time at c rank d h some =
 
 -- ---- other bodies
 
-rank_after-map : {B C : Type 0} (f : B → C) (same_time : Bool) (operation : Operation B) (c : Column B) (rank : ℕ) → rank_after same_time (map_operation f operation) (map_column f c) rank ≡ rank_after same_time operation c rank
+pub rank_after-map : {B C : Type 0} (f : B → C) (same_time : Bool) (operation : Operation B) (c : Column B) (rank : ℕ) → rank_after same_time (map_operation f operation) (map_column f c) rank ≡ rank_after same_time operation c rank
 unfolding rank_after map_operation
 rank_after-map f same_time (Add p b) c rank = refl
 rank_after-map f same_time (Drop at) c rank = rank_dropped-map f same_time at c rank
 rank_after-map f same_time Lay c rank = refl
 
-stays_after-map : {B C : Type 0} (f : B → C) (same_time : Bool) (operation : Operation B) (c : Column B) (rank : ℕ) → stays_after same_time (map_operation f operation) (map_column f c) rank ≡ stays_after same_time operation c rank
+pub stays_after-map : {B C : Type 0} (f : B → C) (same_time : Bool) (operation : Operation B) (c : Column B) (rank : ℕ) → stays_after same_time (map_operation f operation) (map_column f c) rank ≡ stays_after same_time operation c rank
 unfolding stays_after map_operation
 stays_after-map f same_time (Add p b) c rank = refl
 stays_after-map f same_time (Drop at) c rank = stays_dropped-map f same_time at c rank

@@ -17,17 +17,17 @@ use Rattle.tree_model.proofs.CarriedRanks.{is_origin-nil, is_origin-cons, carrie
 
 -- ---- the first origin, by whether it is the rank
 
-is_origin-first : (k : ℕ) (o : Option ℕ) (from : List (Option ℕ)) → is_rank k o ≡ true → is_origin k (o ∷ from) ≡ true
+pub is_origin-first : (k : ℕ) (o : Option ℕ) (from : List (Option ℕ)) → is_rank k o ≡ true → is_origin k (o ∷ from) ≡ true
 is_origin-first k o from h = is_origin-cons k o from ∙ ap (λ (b : Bool). b || is_origin k from) h
 
-is_origin-next : (k : ℕ) (o : Option ℕ) (from : List (Option ℕ)) → is_rank k o ≡ false → is_origin k (o ∷ from) ≡ is_origin k from
+pub is_origin-next : (k : ℕ) (o : Option ℕ) (from : List (Option ℕ)) → is_rank k o ≡ false → is_origin k (o ∷ from) ≡ is_origin k from
 is_origin-next k o from h = is_origin-cons k o from ∙ ap (λ (b : Bool). b || is_origin k from) h
 
-carried-first : (k : ℕ) (o : Option ℕ) (from : List (Option ℕ)) → is_rank k o ≡ true → carried (o ∷ from) k ≡ 0
+pub carried-first : (k : ℕ) (o : Option ℕ) (from : List (Option ℕ)) → is_rank k o ≡ true → carried (o ∷ from) k ≡ 0
 unfolding here_or_next
 carried-first k o from h = carried-cons k o from ∙ ap (λ (b : Bool). here_or_next b (carried from k)) h
 
-carried-next : (k : ℕ) (o : Option ℕ) (from : List (Option ℕ)) → is_rank k o ≡ false → carried (o ∷ from) k ≡ suc (carried from k)
+pub carried-next : (k : ℕ) (o : Option ℕ) (from : List (Option ℕ)) → is_rank k o ≡ false → carried (o ∷ from) k ≡ suc (carried from k)
 unfolding here_or_next
 carried-next k o from h = carried-cons k o from ∙ ap (λ (b : Bool). here_or_next b (carried from k)) h
 
@@ -67,7 +67,7 @@ unfolding bodies
 bodies-nil = refl
 
 -- what goes isn't an origin any more
-live-subset : (k : ℕ) (xs : List (Item (Option ℕ))) → is_origin k (bodies xs) ≡ false → is_origin k (bodies (live_items xs)) ≡ false
+pub live-subset : (k : ℕ) (xs : List (Item (Option ℕ))) → is_origin k (bodies xs) ≡ false → is_origin k (bodies (live_items xs)) ≡ false
 live-subset k [] none = ap (λ (ys : List (Item (Option ℕ))). is_origin k (bodies ys)) live_items-nil ∙ none
 live-subset k (x ∷ xs) none =
     let split = sym (is_origin-cons k x.body (bodies xs)) ∙ ap (is_origin k) (sym (bodies-cons x xs)) ∙ none in
@@ -104,7 +104,7 @@ live_take-yes x xs n m e h = ap (λ (i : ℕ). live (take i (x ∷ xs))) e ∙ l
 live_take-no : {B : Type 0} (x : Item B) (xs : List (Item B)) (n m : ℕ) → n ≡ suc m → x.count ≤ 0 → live (take n (x ∷ xs)) ≡ live (take m xs)
 live_take-no x xs n m e h = ap (λ (i : ℕ). live (take i (x ∷ xs))) e ∙ live-no x (take m xs) h
 
-live-stays : (low high k : ℕ) (xs : List (Item (Option ℕ))) → IsRising low high (bodies xs) → is_origin k (bodies xs) ≡ true
+pub live-stays : (low high k : ℕ) (xs : List (Item (Option ℕ))) → IsRising low high (bodies xs) → is_origin k (bodies xs) ≡ true
     → RankIs k (bodies (live_items xs)) (not (is_dead (slice_get xs (carried (bodies xs) k)))) (live (take (carried (bodies xs) k) xs))
 live-stays low high k [] up held = false_is_true (sym (is_origin-nil k) ∙ ap (is_origin k) (sym bodies-nil) ∙ held)
 live-stays low high k (x ∷ xs) up held =
@@ -146,7 +146,7 @@ live-stays low high k (x ∷ xs) up held =
           ]
     ]
 
-swept-stays : (low high k : ℕ) (b : Bool) (xs : List (Item (Option ℕ))) → IsRising low high (bodies xs) → is_origin k (bodies xs) ≡ true
+pub swept-stays : (low high k : ℕ) (b : Bool) (xs : List (Item (Option ℕ))) → IsRising low high (bodies xs) → is_origin k (bodies xs) ≡ true
     → RankIs k (bodies (swept b xs)) (stays_swept b xs (carried (bodies xs) k)) (rank_swept b xs (carried (bodies xs) k))
 unfolding swept stays_swept rank_swept
 swept-stays low high k true xs up held = live-stays low high k xs up held
@@ -159,7 +159,7 @@ swept-subset k false xs none = none
 
 -- ---- an item that loses a row, and goes or not
 
-gone-stays : (low high k : ℕ) (b : Bool) (xs : List (Item (Option ℕ))) (at : ℕ) → IsRising low high (bodies xs) → is_origin k (bodies xs) ≡ true
+pub gone-stays : (low high k : ℕ) (b : Bool) (xs : List (Item (Option ℕ))) (at : ℕ) → IsRising low high (bodies xs) → is_origin k (bodies xs) ≡ true
     → RankIs k (bodies (gone b xs at)) (stays_gone b at (carried (bodies xs) k)) (rank_gone b at (carried (bodies xs) k))
 unfolding gone stays_gone rank_gone
 gone-stays low high k false xs at up held = record { stays = held; carries = λ h. refl }
@@ -187,7 +187,7 @@ stays_in same_time most at items rank = stays_gone (is_gone same_time items at) 
 unfoldable pub rank_in : {B : Type 0} → Bool → ℕ → ℕ → List (Item B) → ℕ → ℕ
 rank_in same_time most at items rank = rank_swept (is_sparse most (drop_item same_time items at)) (drop_item same_time items at) (rank_gone (is_gone same_time items at) at rank)
 
-item-stays : (low high k : ℕ) (same_time : Bool) (xs : List (Item (Option ℕ))) (at : ℕ) → IsRising low high (bodies xs) → is_origin k (bodies xs) ≡ true
+pub item-stays : (low high k : ℕ) (same_time : Bool) (xs : List (Item (Option ℕ))) (at : ℕ) → IsRising low high (bodies xs) → is_origin k (bodies xs) ≡ true
     → RankIs k (bodies (drop_item same_time xs at)) (stays_gone (is_gone same_time xs at) at (carried (bodies xs) k)) (rank_gone (is_gone same_time xs at) at (carried (bodies xs) k))
 unfolding drop_item is_gone one_less
 item-stays low high k same_time xs at up held =
@@ -235,11 +235,11 @@ unfolding gone
 gone-map g true xs at = remove-map g xs at
 gone-map g false xs at = refl
 
-less-map : {B C : Type 0} (f : B → C) (xs : List (Item B)) (at : ℕ) → change_at one_less (map (map_item f) xs) at ≡ map (map_item f) (change_at one_less xs at)
+pub less-map : {B C : Type 0} (f : B → C) (xs : List (Item B)) (at : ℕ) → change_at one_less (map (map_item f) xs) at ≡ map (map_item f) (change_at one_less xs at)
 unfolding one_less map_item
 less-map f xs at = map-change_at_other (map_item f) one_less one_less (λ x. refl) xs at
 
-is_gone-map : {B C : Type 0} (f : B → C) (same_time : Bool) (xs : List (Item B)) (at : ℕ) → is_gone same_time (map (map_item f) xs) at ≡ is_gone same_time xs at
+pub is_gone-map : {B C : Type 0} (f : B → C) (same_time : Bool) (xs : List (Item B)) (at : ℕ) → is_gone same_time (map (map_item f) xs) at ≡ is_gone same_time xs at
 unfolding is_gone
 is_gone-map f same_time xs at =
     ap (λ (b : Bool). same_time && b) (ap (λ (ys : List (Item _)). is_dead (slice_get ys at)) (less-map f xs at) ∙ is_dead-map f (change_at one_less xs at) at)
@@ -251,16 +251,16 @@ drop_item-map f same_time xs at =
     ap₂ (λ (b : Bool) (ys : List (Item _)). gone b ys at) (is_gone-map f same_time xs at) (less-map f xs at)
     ∙ gone-map (map_item f) (same_time && is_dead (slice_get less at)) less at
 
-is_sparse-list : {B C : Type 0} (f : B → C) (most : ℕ) (xs : List (Item B)) → is_sparse most (map (map_item f) xs) ≡ is_sparse most xs
+pub is_sparse-list : {B C : Type 0} (f : B → C) (most : ℕ) (xs : List (Item B)) → is_sparse most (map (map_item f) xs) ≡ is_sparse most xs
 unfolding is_sparse
 is_sparse-list f most xs = ap (λ (n : ℕ). ltb (3 * n) (2 * most)) (live-map f xs)
 
-rank_swept-map : {B C : Type 0} (f : B → C) (b : Bool) (xs : List (Item B)) (rank : ℕ) → rank_swept b (map (map_item f) xs) rank ≡ rank_swept b xs rank
+pub rank_swept-map : {B C : Type 0} (f : B → C) (b : Bool) (xs : List (Item B)) (rank : ℕ) → rank_swept b (map (map_item f) xs) rank ≡ rank_swept b xs rank
 unfolding rank_swept
 rank_swept-map f true xs rank = ap live (take-map (map_item f) rank xs) ∙ live-map f (take rank xs)
 rank_swept-map f false xs rank = refl
 
-stays_swept-map : {B C : Type 0} (f : B → C) (b : Bool) (xs : List (Item B)) (rank : ℕ) → stays_swept b (map (map_item f) xs) rank ≡ stays_swept b xs rank
+pub stays_swept-map : {B C : Type 0} (f : B → C) (b : Bool) (xs : List (Item B)) (rank : ℕ) → stays_swept b (map (map_item f) xs) rank ≡ stays_swept b xs rank
 unfolding stays_swept
 stays_swept-map f true xs rank = ap not (is_dead-map f xs rank)
 stays_swept-map f false xs rank = refl
@@ -282,11 +282,11 @@ stays_in-map f same_time most at xs rank =
     ∙ ap (λ (c : Bool). stays_gone b at rank && stays_swept c (map (map_item f) ds) (rank_gone b at rank)) (is_sparse-list f most ds)
     ∙ ap (λ (s : Bool). stays_gone b at rank && s) (stays_swept-map f (is_sparse most ds) ds (rank_gone b at rank))
 
-items-map_column : {B C : Type 0} (f : B → C) (c : Column B) → items_of (map_column f c) ≡ map (map_item f) (items_of c)
+pub items-map_column : {B C : Type 0} (f : B → C) (c : Column B) → items_of (map_column f c) ≡ map (map_item f) (items_of c)
 unfolding items_of map_column
 items-map_column f c = inorder-map_tree (map_item f) c.tree
 
-most-map_column : {B C : Type 0} (f : B → C) (c : Column B) → (map_column f c).most ≡ c.most
+pub most-map_column : {B C : Type 0} (f : B → C) (c : Column B) → (map_column f c).most ≡ c.most
 unfolding map_column
 most-map_column f c = refl
 

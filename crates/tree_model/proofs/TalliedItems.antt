@@ -59,11 +59,11 @@ counts-live {B} items = map-live (λ (item : Item B). item.count) items
 
 -- ---- the tallies
 
-tallied_by : (keys keys_are counts_before counts_are rows : List ℕ) → keys_are ≡ keys → counts_are ≡ counts_before → Tallied keys counts_before rows → Tallied keys_are counts_are rows
+pub tallied_by : (keys keys_are counts_before counts_are rows : List ℕ) → keys_are ≡ keys → counts_are ≡ counts_before → Tallied keys counts_before rows → Tallied keys_are counts_are rows
 tallied_by keys keys_are counts_before counts_are rows a b t =
     subst (λ (ks : List ℕ). Tallied ks counts_are rows) (sym a) (subst (λ (ns : List ℕ). Tallied keys ns rows) (sym b) t)
 
-add_tallied : {B : Type 0} (v : B → ℕ) (items : List (Item B)) (rows : List ℕ) (b : B) (later : List ℕ) (p : Place) → place (values v items) (v b) ≡ p → TalliedItems v items rows → IsOneMore (v b) rows later → TalliedItems v (add_item p b items) later
+pub add_tallied : {B : Type 0} (v : B → ℕ) (items : List (Item B)) (rows : List ℕ) (b : B) (later : List ℕ) (p : Place) → place (values v items) (v b) ≡ p → TalliedItems v items rows → IsOneMore (v b) rows later → TalliedItems v (add_item p b items) later
 unfolding add_item
 add_tallied v items rows b later (Found rank) at t one =
     tallied_by (values v items) (values v (change_at one_more items rank)) (raised (counts items) rank) (counts (change_at one_more items rank)) later
@@ -75,7 +75,7 @@ add_tallied v items rows b later (Gap rank) at t one =
     ((tallied_more (values v items) (counts items) rows (v b) later t one).new rank at)
 
 -- an item that is there and no row has counts 0
-dead-count : {B : Type 0} (items : List (Item B)) (rank : ℕ) → is_dead (slice_get items rank) ≡ true → get_or (counts items) rank 1 ≡ 0
+pub dead-count : {B : Type 0} (items : List (Item B)) (rank : ℕ) → is_dead (slice_get items rank) ≡ true → get_or (counts items) rank 1 ≡ 0
 unfolding counts is_dead has_rows
 dead-count [] zero h = false_is_true h
 dead-count [] (suc rank) h = false_is_true h
@@ -83,13 +83,13 @@ dead-count (x ∷ items) zero h =
     elim (cases_lt 0 x.count) [ inl some ↦ false_is_true (ap not (sym (lt-ltb 0 x.count some)) ∙ h) | inr none ↦ omega arith ]
 dead-count (x ∷ items) (suc rank) h = dead-count items rank h
 
-less_tallied : {B : Type 0} (v : B → ℕ) (items : List (Item B)) (rows : List ℕ) (rank d : ℕ) (earlier : List ℕ) → TalliedItems v items rows → rank < length (values v items) → IsOneMore (get_or (values v items) rank d) earlier rows → TalliedItems v (change_at one_less items rank) earlier
+pub less_tallied : {B : Type 0} (v : B → ℕ) (items : List (Item B)) (rows : List ℕ) (rank d : ℕ) (earlier : List ℕ) → TalliedItems v items rows → rank < length (values v items) → IsOneMore (get_or (values v items) rank d) earlier rows → TalliedItems v (change_at one_less items rank) earlier
 less_tallied v items rows rank d earlier t h one =
     tallied_by (values v items) (values v (change_at one_less items rank)) (lowered (counts items) rank) (counts (change_at one_less items rank)) earlier
     (values-one_less v items rank) (counts-less items rank)
     (tallied_fewer (values v items) (counts items) rows rank d earlier t h one)
 
-gone_tallied : {B : Type 0} (v : B → ℕ) (b : Bool) (items : List (Item B)) (rows : List ℕ) (rank : ℕ) → (b ≡ true → is_dead (slice_get items rank) ≡ true) → TalliedItems v items rows → TalliedItems v (gone b items rank) rows
+pub gone_tallied : {B : Type 0} (v : B → ℕ) (b : Bool) (items : List (Item B)) (rows : List ℕ) (rank : ℕ) → (b ≡ true → is_dead (slice_get items rank) ≡ true) → TalliedItems v items rows → TalliedItems v (gone b items rank) rows
 unfolding gone
 gone_tallied v true items rows rank dead t =
     tallied_by (remove (values v items) rank) (values v (remove items rank)) (remove (counts items) rank) (counts (remove items rank)) rows
@@ -97,7 +97,7 @@ gone_tallied v true items rows rank dead t =
     ((tallied_slim (values v items) (counts items) rows t).one rank (dead-count items rank (dead refl)))
 gone_tallied v false items rows rank dead t = t
 
-swept_tallied : {B : Type 0} (v : B → ℕ) (b : Bool) (items : List (Item B)) (rows : List ℕ) → TalliedItems v items rows → TalliedItems v (swept b items) rows
+pub swept_tallied : {B : Type 0} (v : B → ℕ) (b : Bool) (items : List (Item B)) (rows : List ℕ) → TalliedItems v items rows → TalliedItems v (swept b items) rows
 unfolding swept
 swept_tallied v true items rows t =
     tallied_by (with_rows (counts items) (values v items)) (values v (live_items items)) (with_rows (counts items) (counts items)) (counts (live_items items)) rows
@@ -109,13 +109,13 @@ both_true : (a b : Bool) → (a && b) ≡ true → b ≡ true
 both_true true b e = e
 both_true false b e = false_is_true e
 
-drop_tallied : {B : Type 0} (v : B → ℕ) (same_time : Bool) (items : List (Item B)) (rows : List ℕ) (rank d : ℕ) (earlier : List ℕ) → TalliedItems v items rows → rank < length (values v items) → IsOneMore (get_or (values v items) rank d) earlier rows → TalliedItems v (drop_item same_time items rank) earlier
+pub drop_tallied : {B : Type 0} (v : B → ℕ) (same_time : Bool) (items : List (Item B)) (rows : List ℕ) (rank d : ℕ) (earlier : List ℕ) → TalliedItems v items rows → rank < length (values v items) → IsOneMore (get_or (values v items) rank d) earlier rows → TalliedItems v (drop_item same_time items rank) earlier
 unfolding drop_item
 drop_tallied v same_time items rows rank d earlier t h one =
     let less = change_at one_less items rank in
     gone_tallied v (same_time && is_dead (slice_get less rank)) less earlier rank (both_true same_time (is_dead (slice_get less rank))) (less_tallied v items rows rank d earlier t h one)
 
-length-keys : {B : Type 0} (v : B → ℕ) (c : Column B) → length (values v (items_of c)) ≡ size c.tree
+pub length-keys : {B : Type 0} (v : B → ℕ) (c : Column B) → length (values v (items_of c)) ≡ size c.tree
 unfolding values items_of
 length-keys {B} v c = length-map (inorder c.tree) (λ (item : Item B). v item.body) ∙ length-inorder c.tree
 
@@ -141,8 +141,8 @@ live-sum {B} (x ∷ items) =
     let more = sum-cons x.count (map (λ (item : Item B). item.count) items) in
     elim (cases_lt 0 x.count) [ inl some ↦ omega (arith, live-yes x items some, more, ih) | inr none ↦ omega (arith, live-no x items none, more, ih) ]
 
-pub live_within_rows : {B : Type 0} (v : B → ℕ) (items : List (Item B)) (rows : List ℕ) → TalliedItems v items rows → live items ≤ length rows
-live_within_rows v items rows t = omega (arith, live-sum items, tallied_sum (values v items) (counts items) rows t)
+pub live_within_rows : {B : Type 0} (keys : List ℕ) (items : List (Item B)) (rows : List ℕ) → Tallied keys (counts items) rows → live items ≤ length rows
+live_within_rows keys items rows t = omega (arith, live-sum items, tallied_sum keys (counts items) rows t)
 
-pub most_within_rows : {B : Type 0} (v : B → ℕ) (c : Column B) (rows : List ℕ) → TalliedItems v (items_of c) rows → 2 * c.most ≤ 3 * live (items_of c) → 2 * c.most ≤ 3 * length rows
-most_within_rows v c rows t dense = omega (arith, dense, live_within_rows v (items_of c) rows t)
+pub most_within_rows : {B : Type 0} (keys : List ℕ) (c : Column B) (rows : List ℕ) → Tallied keys (counts (items_of c)) rows → 2 * c.most ≤ 3 * live (items_of c) → 2 * c.most ≤ 3 * length rows
+most_within_rows keys c rows t dense = omega (arith, dense, live_within_rows keys (items_of c) rows t)

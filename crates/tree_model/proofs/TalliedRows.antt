@@ -29,7 +29,7 @@ pub tally-past : (row : ℕ) (rows : List ℕ) (key : ℕ) → row ≢ key → t
 unfolding tally one_if
 tally-past row rows key h = rw (ne_eqb row key h) refl
 
-none_held : {A : Type 0} (key : ℕ) → holds key [] ≡ true → A
+pub none_held : {A : Type 0} (key : ℕ) → holds key [] ≡ true → A
 unfolding holds
 none_held key h = false_is_true h
 
@@ -82,16 +82,16 @@ tally-remove (row ∷ rows) (suc at) d h other =
 pub one_more_row : (rows : List ℕ) → TalliesRows rows
 one_more_row rows = record { put_in = λ at key. tally-insert rows at key; put_last = tally-last rows; taken_out = λ at d h. tally-remove rows at d h }
 
-more-here : (key : ℕ) (earlier later : List ℕ) (other : ℕ) → IsOneMore key earlier later → key ≡ other → tally later other ≡ suc (tally earlier other)
+pub more-here : (key : ℕ) (earlier later : List ℕ) (other : ℕ) → IsOneMore key earlier later → key ≡ other → tally later other ≡ suc (tally earlier other)
 unfolding IsOneMore one_if
 more-here key earlier later other one e = one other ∙ ap (λ (b : Bool). one_if b (tally earlier other)) (eq-eqb key other e)
 
-more-past : (key : ℕ) (earlier later : List ℕ) (other : ℕ) → IsOneMore key earlier later → key ≢ other → tally later other ≡ tally earlier other
+pub more-past : (key : ℕ) (earlier later : List ℕ) (other : ℕ) → IsOneMore key earlier later → key ≢ other → tally later other ≡ tally earlier other
 unfolding IsOneMore one_if
 more-past key earlier later other one h = one other ∙ ap (λ (b : Bool). one_if b (tally earlier other)) (ne_eqb key other h)
 
 -- a row of the earlier ones is one of the later ones
-held-later : (key : ℕ) (earlier later : List ℕ) (other : ℕ) → IsOneMore key earlier later → holds other earlier ≡ true → holds other later ≡ true
+pub held-later : (key : ℕ) (earlier later : List ℕ) (other : ℕ) → IsOneMore key earlier later → holds other earlier ≡ true → holds other later ≡ true
 held-later key earlier later other one h =
     let some = tally-held other earlier h in
     held-tally other later (
@@ -101,7 +101,7 @@ held-later key earlier later other one h =
     ])
 
 -- and one of the later ones is of the earlier ones, but for the new key
-held-earlier : (key : ℕ) (earlier later : List ℕ) (other : ℕ) → IsOneMore key earlier later → key ≢ other → holds other later ≡ true → holds other earlier ≡ true
+pub held-earlier : (key : ℕ) (earlier later : List ℕ) (other : ℕ) → IsOneMore key earlier later → key ≢ other → holds other later ≡ true → holds other earlier ≡ true
 held-earlier key earlier later other one past h =
     held-tally other earlier (omega (arith, tally-held other later h, more-past key earlier later other one past))
 
@@ -111,13 +111,13 @@ pub held-cons : (other key : ℕ) (keys : List ℕ) → holds other keys ≡ tru
 held-cons other key keys h =
     elim (cases_eq key other) [ inl here ↦ holds-cons_eq other key keys here | inr past ↦ holds-cons_ne other key keys past ∙ h ]
 
-map-alike : (f g : ℕ → ℕ) (keys : List ℕ) → ((key : ℕ) → holds key keys ≡ true → f key ≡ g key) → map f keys ≡ map g keys
+pub map-alike : (f g : ℕ → ℕ) (keys : List ℕ) → ((key : ℕ) → holds key keys ≡ true → f key ≡ g key) → map f keys ≡ map g keys
 map-alike f g [] same = refl
 map-alike f g (key ∷ keys) same =
     ap₂ (λ (n : ℕ) (ns : List ℕ). n ∷ ns) (same key (holds-cons_eq key key keys refl)) (map-alike f g keys (λ other h. same other (held-cons other key keys h)))
 
 -- what is below all keys is none of them
-lt_of_held : (v key : ℕ) (keys : List ℕ) → IsBelowAll v keys → holds key keys ≡ true → v < key
+pub lt_of_held : (v key : ℕ) (keys : List ℕ) → IsBelowAll v keys → holds key keys ≡ true → v < key
 unfolding IsBelowAll
 lt_of_held v key [] above h = none_held key h
 lt_of_held v key (x ∷ keys) above h =
@@ -139,7 +139,7 @@ raised-counts (key ∷ keys) (suc rank) d earlier later up h one =
     ap₂ (λ (n : ℕ) (ns : List ℕ). n ∷ ns) (sym (more-past (get_or keys rank d) earlier later key one (λ e. omega arith)))
     (raised-counts keys rank d earlier later up.1 (omega arith) one)
 
-lowered-raised : (counts : List ℕ) (rank : ℕ) → lowered (raised counts rank) rank ≡ counts
+pub lowered-raised : (counts : List ℕ) (rank : ℕ) → lowered (raised counts rank) rank ≡ counts
 unfolding lowered raised change_at
 lowered-raised [] rank = refl
 lowered-raised (count ∷ counts) zero = let e : suc count - 1 ≡ count = omega arith in ap (λ (n : ℕ). n ∷ counts) e
@@ -147,7 +147,7 @@ lowered-raised (count ∷ counts) (suc rank) = ap (λ (ns : List ℕ). count ∷
 
 -- ---- one row more
 
-holds-insert : (other : ℕ) (keys : List ℕ) (at key : ℕ) → holds other (insert keys at key) ≡ eqb key other || holds other keys
+pub holds-insert : (other : ℕ) (keys : List ℕ) (at key : ℕ) → holds other (insert keys at key) ≡ eqb key other || holds other keys
 unfolding holds
 holds-insert other keys zero key = refl
 holds-insert other [] (suc at) key = refl
@@ -159,14 +159,14 @@ holds-insert other (x ∷ keys) (suc at) key = ap (λ (b : Bool). eqb x other ||
     swap false true c = refl
     swap false false c = refl
 
-held-insert : (other : ℕ) (keys : List ℕ) (at key : ℕ) → holds other keys ≡ true → holds other (insert keys at key) ≡ true
+pub held-insert : (other : ℕ) (keys : List ℕ) (at key : ℕ) → holds other keys ≡ true → holds other (insert keys at key) ≡ true
 held-insert other keys at key h = holds-insert other keys at key ∙ ap (λ (b : Bool). eqb key other || b) h ∙ or_true (eqb key other)
   where
     or_true : (a : Bool) → (a || true) ≡ true
     or_true true = refl
     or_true false = refl
 
-held-new : (other : ℕ) (keys : List ℕ) (at key : ℕ) → key ≡ other → holds other (insert keys at key) ≡ true
+pub held-new : (other : ℕ) (keys : List ℕ) (at key : ℕ) → key ≡ other → holds other (insert keys at key) ≡ true
 held-new other keys at key e = holds-insert other keys at key ∙ ap (λ (b : Bool). b || holds other keys) (eq-eqb key other e)
 
 tallied-found : (keys counts rows : List ℕ) (key : ℕ) (more : List ℕ) → Tallied keys counts rows → IsOneMore key rows more → (rank : ℕ) → place keys key ≡ Found rank → Tallied keys (raised counts rank) more
@@ -183,7 +183,7 @@ tallied-found keys counts rows key more t one rank at =
     }
 
 -- what no row has isn't counted
-tally-free : (key : ℕ) (rows : List ℕ) → holds key rows ≡ false → tally rows key ≡ 0
+pub tally-free : (key : ℕ) (rows : List ℕ) → holds key rows ≡ false → tally rows key ≡ 0
 tally-free key rows free =
     elim (cases_lt 0 (tally rows key)) [ inl some ↦ false_is_true (sym free ∙ held-tally key rows some) | inr none ↦ omega arith ]
 
@@ -250,7 +250,7 @@ map-with_rows f (count ∷ counts) [] = refl
 map-with_rows f (zero ∷ counts) (x ∷ xs) = map-with_rows f counts xs
 map-with_rows f (suc count ∷ counts) (x ∷ xs) = ap (λ (ys : List _). f x ∷ ys) (map-with_rows f counts xs)
 
-held-with_rows : (f : ℕ → ℕ) (key : ℕ) (keys : List ℕ) → holds key keys ≡ true → 0 < f key → holds key (with_rows (map f keys) keys) ≡ true
+pub held-with_rows : (f : ℕ → ℕ) (key : ℕ) (keys : List ℕ) → holds key keys ≡ true → 0 < f key → holds key (with_rows (map f keys) keys) ≡ true
 held-with_rows f key [] h some = none_held key h
 held-with_rows f key (x ∷ keys) h some =
     elim (cases_eq x key) [
@@ -264,7 +264,7 @@ held-with_rows f key (x ∷ keys) h some =
           ]
     ]
 
-held-remove : (key : ℕ) (keys : List ℕ) (rank d : ℕ) → holds key keys ≡ true → get_or keys rank d ≢ key → holds key (remove keys rank) ≡ true
+pub held-remove : (key : ℕ) (keys : List ℕ) (rank d : ℕ) → holds key keys ≡ true → get_or keys rank d ≢ key → holds key (remove keys rank) ≡ true
 held-remove key [] rank d h other = none_held key h
 held-remove key (x ∷ keys) zero d h other = sym (holds-cons_ne key x keys other) ∙ h
 held-remove key (x ∷ keys) (suc rank) d h other =
@@ -274,7 +274,7 @@ held-remove key (x ∷ keys) (suc rank) d h other =
     ]
 
 -- the count at a rank is that of the key there
-count_at : (f : ℕ → ℕ) (keys : List ℕ) (rank d : ℕ) → get_or (map f keys) rank 1 ≡ 0 → f (get_or keys rank d) ≡ 0
+pub count_at : (f : ℕ → ℕ) (keys : List ℕ) (rank d : ℕ) → get_or (map f keys) rank 1 ≡ 0 → f (get_or keys rank d) ≡ 0
 count_at f [] zero d e = absurd (omega arith)
 count_at f [] (suc rank) d e = absurd (omega arith)
 count_at f (key ∷ keys) zero d e = e
@@ -299,7 +299,7 @@ tallied_slim keys counts rows t =
 
 -- ---- keys and rows through a map
 
-held-map : (f : ℕ → ℕ) (key : ℕ) (keys : List ℕ) → holds key keys ≡ true → holds (f key) (map f keys) ≡ true
+pub held-map : (f : ℕ → ℕ) (key : ℕ) (keys : List ℕ) → holds key keys ≡ true → holds (f key) (map f keys) ≡ true
 held-map f key [] h = none_held key h
 held-map f key (x ∷ keys) h =
     elim (cases_eq x key) [
@@ -308,7 +308,7 @@ held-map f key (x ∷ keys) h =
     ]
 
 -- what stands in the mapped list comes from something
-held-from : (f : ℕ → ℕ) (image : ℕ) (rows : List ℕ) → holds image (map f rows) ≡ true → (row : ℕ) × (holds row rows ≡ true) × (f row ≡ image)
+pub held-from : (f : ℕ → ℕ) (image : ℕ) (rows : List ℕ) → holds image (map f rows) ≡ true → (row : ℕ) × (holds row rows ≡ true) × (f row ≡ image)
 held-from f image [] h = none_held image h
 held-from f image (x ∷ rows) h =
     elim (cases_eq (f x) image) [
@@ -317,7 +317,7 @@ held-from f image (x ∷ rows) h =
     ]
 
 -- a map that keeps the keys increasing gives no two of them one image
-map-apart : (f : ℕ → ℕ) (keys : List ℕ) (j k : ℕ) → IsIncreasing (map f keys) → holds j keys ≡ true → holds k keys ≡ true → f j ≡ f k → j ≡ k
+pub map-apart : (f : ℕ → ℕ) (keys : List ℕ) (j k : ℕ) → IsIncreasing (map f keys) → holds j keys ≡ true → holds k keys ≡ true → f j ≡ f k → j ≡ k
 unfolding IsIncreasing
 map-apart f [] j k up at_j at_k e = none_held j at_j
 map-apart f (x ∷ keys) j k up at_j at_k e =
@@ -336,7 +336,7 @@ map-apart f (x ∷ keys) j k up at_j at_k e =
       ]
     ]
 
-tally-map : (f : ℕ → ℕ) (keys rows : List ℕ) (key : ℕ) → IsIncreasing (map f keys) → ((row : ℕ) → holds row rows ≡ true → holds row keys ≡ true) → holds key keys ≡ true → tally rows key ≡ tally (map f rows) (f key)
+pub tally-map : (f : ℕ → ℕ) (keys rows : List ℕ) (key : ℕ) → IsIncreasing (map f keys) → ((row : ℕ) → holds row rows ≡ true → holds row keys ≡ true) → holds key keys ≡ true → tally rows key ≡ tally (map f rows) (f key)
 tally-map f keys [] key up among h = tally-nil key ∙ sym (tally-nil (f key))
 tally-map f keys (row ∷ rows) key up among h =
     let ih = tally-map f keys rows key up (λ other held. among other (held-cons other row rows held)) h in
@@ -373,7 +373,7 @@ sum-cons x xs =
     ∙ sum_by-cons (λ (n : ℕ). n) x xs
     ∙ ap (λ (n : ℕ). x + n) (sym (sum-map (λ (n : ℕ). n) xs) ∙ ap sum (map-id xs))
 
-sum-raised : (counts : List ℕ) (rank : ℕ) → rank < length counts → sum (raised counts rank) ≡ suc (sum counts)
+pub sum-raised : (counts : List ℕ) (rank : ℕ) → rank < length counts → sum (raised counts rank) ≡ suc (sum counts)
 unfolding raised change_at
 sum-raised [] rank h = absurd (omega arith)
 sum-raised (count ∷ counts) zero h = omega (arith, sum-cons count counts, sum-cons (suc count) counts)
@@ -396,3 +396,12 @@ sum-tally keys (row ∷ rows) up among =
 
 pub tallied_sum : (keys counts rows : List ℕ) → Tallied keys counts rows → sum counts ≡ length rows
 tallied_sum keys counts rows t = ap sum t.counted ∙ sum-tally keys rows t.rise t.held
+
+pub count-sum : (counts : List ℕ) (rank : ℕ) → get_or counts rank 0 ≤ sum counts
+count-sum [] zero = omega arith
+count-sum [] (suc rank) = omega arith
+count-sum (count ∷ counts) zero = omega (arith, sum-cons count counts)
+count-sum (count ∷ counts) (suc rank) = omega (arith, sum-cons count counts, count-sum counts rank)
+
+pub count_within_rows : (keys counts rows : List ℕ) (rank : ℕ) → Tallied keys counts rows → get_or counts rank 0 ≤ length rows
+count_within_rows keys counts rows rank t = omega (arith, count-sum counts rank, tallied_sum keys counts rows t)

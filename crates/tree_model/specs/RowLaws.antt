@@ -1,10 +1,10 @@
 -- How rows follow their items under operations: the statements of laws that this crate's functions without a body prove.
-use Rattle.std.specs.Prelude.{◌≡◌, ℕ, ◌<◌, Bool, true, ◌&&◌, List, [], ◌∷◌, ◌++◌, map, get_or, Option, Some, None}
-use Rattle.tree_model.specs.declared.Place.TheVariants.{Found}
+use Rattle.std.specs.Prelude.{◌≡◌, ℕ, ◌<◌, Bool, true, false, ◌&&◌, List, [], ◌∷◌, ◌++◌, map, get_or, Option, Some, None}
+use Rattle.tree_model.specs.declared.Place.TheVariants.{Found, Gap}
 use Rattle.tree_model.specs.Trees.{size}
 use Rattle.tree_model.specs.Places.{below, place, IsIncreasing}
 use Rattle.tree_model.specs.Items.{Item, one_less, values, change_at}
-use Rattle.tree_model.specs.Columns.{Column, items_of, Operation, Drop, apply_all, map_column, map_operation}
+use Rattle.tree_model.specs.Columns.{Column, empty_column, items_of, Operation, Add, Drop, apply_all, map_column, map_operation}
 use Rattle.tree_model.specs.Sums.{origins, composed, IsRising}
 use Rattle.tree_model.specs.Carried.{is_origin, carried}
 use Rattle.tree_model.specs.Ranks.{rank_after, rank_after_all, stays_after, stays_after_all}
@@ -72,3 +72,20 @@ pub record ValueFollows (before after : List ℕ) (origins_are : List (Option �
 
 abbrev pub ValuesFollow : Type 0 → Type 0
 ValuesFollow B = (v : B → ℕ) (same_time : Bool) (operations : List (Operation B)) (c : Column B) (rank d : ℕ) → IsIncreasing (values v (items_of (apply_all same_time operations c))) → is_origin rank (origins same_time operations c) ≡ true → ValueFollows (values v (items_of c)) (values v (items_of (apply_all same_time operations c))) (origins same_time operations c) rank d
+
+-- ---- worked examples: the items 10, 30, 40 with a row each
+
+unfoldable pub three_items : Column ℕ
+three_items = apply_all false (Add (Gap 0) 10 ∷ Add (Gap 1) 30 ∷ Add (Gap 2) 40 ∷ []) (empty_column ℕ)
+
+-- a new item after the first, and in same-time mode the second without its row
+pub record RanksOfThree : Type 0 where
+  pub after_new : map (rank_after false (Add (Gap 1) 20) three_items) (0 ∷ 1 ∷ 2 ∷ []) ≡ 0 ∷ 2 ∷ 3 ∷ []
+  pub which_stay : map (stays_after true (Drop 1) three_items) (0 ∷ 1 ∷ 2 ∷ []) ≡ true ∷ false ∷ true ∷ []
+  pub after_gone : map (rank_after true (Drop 1) three_items) (0 ∷ 2 ∷ []) ≡ 0 ∷ 1 ∷ []
+
+-- in ordinary mode the first loses its row and stays, and when the second does, the third is the only live one and becomes the first
+pub record RanksOfSwept : Type 0 where
+  pub all_stay : map (stays_after false (Drop 0) three_items) (0 ∷ 1 ∷ 2 ∷ []) ≡ true ∷ true ∷ true ∷ []
+  pub last_stays : map (stays_after_all false (Drop 0 ∷ Drop 1 ∷ []) three_items) (0 ∷ 1 ∷ 2 ∷ []) ≡ false ∷ false ∷ true ∷ []
+  pub last_is_first : rank_after_all false (Drop 0 ∷ Drop 1 ∷ []) three_items 2 ≡ 0

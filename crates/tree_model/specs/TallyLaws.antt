@@ -6,7 +6,7 @@ use Rattle.tree_model.specs.Trees.{size}
 use Rattle.tree_model.specs.Places.{place, IsIncreasing}
 use Rattle.tree_model.specs.Items.{Item, values, live}
 use Rattle.tree_model.specs.Columns.{Column, items_of, add, drop_one}
-use Rattle.tree_model.specs.Tallies.{Tallied, IsOneMore, raised, lowered, with_rows, TalliedItems}
+use Rattle.tree_model.specs.Tallies.{tally, Tallied, IsOneMore, raised, lowered, with_rows, counts, TalliedItems}
 
 -- a row put in anywhere is one more of its key, and one taken out one fewer
 pub record TalliesRows (rows : List ℕ) : Type 0 where
@@ -45,13 +45,21 @@ TalliedMapped = (f : ℕ → ℕ) (keys counts_are rows : List ℕ) → Tallied 
 abbrev pub TalliedSum : Type 0
 TalliedSum = (keys counts_are rows : List ℕ) → Tallied keys counts_are rows → sum counts_are ≡ length rows
 
--- so there are no more live items than rows
-abbrev pub LiveWithinRows : Type 0 → Type 0
-LiveWithinRows B = (v : B → ℕ) (items : List (Item B)) (rows : List ℕ) → TalliedItems v items rows → live items ≤ length rows
+-- so no key has more rows than there are
+abbrev pub CountWithinRows : Type 0
+CountWithinRows = (keys counts_are rows : List ℕ) (rank : ℕ) → Tallied keys counts_are rows → get_or counts_are rank 0 ≤ length rows
 
--- and no column of rows with a dense tree had more items than half as many again
+-- there are no more live items than rows
+abbrev pub LiveWithinRows : Type 0 → Type 0
+LiveWithinRows B = (keys : List ℕ) (items : List (Item B)) (rows : List ℕ) → Tallied keys (counts items) rows → live items ≤ length rows
+
+-- and where at least two thirds of the greatest number of items are live, that number is at most half as many again as the rows
 abbrev pub MostWithinRows : Type 0 → Type 0
-MostWithinRows B = (v : B → ℕ) (c : Column B) (rows : List ℕ) → TalliedItems v (items_of c) rows → 2 * c.most ≤ 3 * live (items_of c) → 2 * c.most ≤ 3 * length rows
+MostWithinRows B = (keys : List ℕ) (c : Column B) (rows : List ℕ) → Tallied keys (counts (items_of c)) rows → 2 * c.most ≤ 3 * live (items_of c) → 2 * c.most ≤ 3 * length rows
+
+-- a computed example
+abbrev pub TallyOfThree : Type 0
+TallyOfThree = map (tally (5 ∷ 3 ∷ 3 ∷ [])) (3 ∷ 5 ∷ 7 ∷ []) ≡ 2 ∷ 1 ∷ 0 ∷ []
 
 -- what the operations on a column keep of this
 pub record TalliesColumn (B : Type 0) (v : B → ℕ) (c : Column B) (rows : List ℕ) : Type 0 where

@@ -1,10 +1,10 @@
 -- The walk to a value's place in a tree of items in the order of their values: at each item it compares and turns.
-use Rattle.std.specs.Prelude.{◌≡◌, ℕ, ◌<◌, nat_lt, List, [], map, get_or}
+use Rattle.std.specs.Prelude.{◌≡◌, ℕ, ◌<◌, nat_lt, List, [], ◌∷◌, map, get_or}
 use Rattle.tree_model.specs.declared.Side.{Side}
 use Rattle.tree_model.specs.declared.Side.TheVariants.{Left, Right}
 use Rattle.tree_model.specs.declared.Place.{Place}
 use Rattle.tree_model.specs.declared.Place.TheVariants.{Found, Gap}
-use Rattle.tree_model.specs.Trees.{Tree, leaf, node, inorder, path, side_by, onward}
+use Rattle.tree_model.specs.Trees.{Tree, leaf, node, inorder, path, side_by, onward, balanced}
 use Rattle.tree_model.specs.Places.{place, IsIncreasing}
 use Rattle.tree_model.specs.Parts.{LeadsToItem, LeadsToGap}
 
@@ -39,3 +39,7 @@ pub record GoesToPlace (A : Type 0) (v : A → ℕ) (t : Tree A) (x : ℕ) (d : 
 
 abbrev pub WalkGoesToPlace : Type 0 → Type 0
 WalkGoesToPlace A = (v : A → ℕ) (t : Tree A) (x : ℕ) (d : A) → IsIncreasing (map v (inorder t)) → GoesToPlace A v t x d
+
+-- a computed example: 25 in the balanced tree of 10, 20, 30
+abbrev pub WalkOfThree : Type 0
+WalkOfThree = walk (λ (n : ℕ). n) (balanced (10 ∷ 20 ∷ 30 ∷ [])) 25 ≡ Right ∷ Left ∷ []

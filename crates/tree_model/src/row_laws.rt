@@ -1,6 +1,6 @@
 //! Laws of rows under the operations on a column: which item a row has after them. Each function is empty: its contract is
 //! the law.
-ghost use Rattle.tree_model.specs.RowLaws.{CarriedAppends, CarriedComposes, CarriedKeepsOrder, CarriedOfNothing, CarriedTellsRank, RankAfterOperation, RankAfterOperations, RanksAreBlind, RowsKeepItem, ValuesFollow};
+ghost use Rattle.tree_model.specs.RowLaws.{CarriedAppends, CarriedComposes, CarriedKeepsOrder, CarriedOfNothing, CarriedTellsRank, RankAfterOperation, RankAfterOperations, RanksAreBlind, RanksOfSwept, RanksOfThree, RowsKeepItem, ValuesFollow};
 
 /// An item that stays after operations stands at the rank that `carried` tells, and nowhere else.
 pub fn carried_tells_rank<B>()
@@ -53,4 +53,14 @@ pub fn ranks_are_blind<B, C>()
 /// tells.
 pub fn values_follow<B>()
     ensures { ValuesFollow B }
+{}
+
+/// A worked example: the ranks of three items after a new one, and after one that goes in same-time mode.
+pub fn ranks_of_three()
+    ensures { RanksOfThree }
+{}
+
+/// A worked example: in ordinary mode two of three items lose their rows, and the third becomes the first.
+pub fn ranks_of_swept()
+    ensures { RanksOfSwept }
 {}

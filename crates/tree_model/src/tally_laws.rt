@@ -1,5 +1,5 @@
 //! Laws of the counts of rows. Each function is empty: its contract is the law.
-ghost use Rattle.tree_model.specs.TallyLaws.{LiveWithinRows, MostWithinRows, OneMoreRow, TalliedColumn, TalliedFewer, TalliedMapped, TalliedMore, TalliedSlim, TalliedSum};
+ghost use Rattle.tree_model.specs.TallyLaws.{CountWithinRows, LiveWithinRows, MostWithinRows, OneMoreRow, TalliedColumn, TalliedFewer, TalliedMapped, TalliedMore, TalliedSlim, TalliedSum, TallyOfThree};
 
 /// A row put in, wherever it is, is one more of its key, and a row taken out one fewer.
 pub fn one_more_row()
@@ -31,6 +31,11 @@ pub fn tallied_sum()
     ensures { TalliedSum }
 {}
 
+/// No key has more rows than there are.
+pub fn count_within_rows()
+    ensures { CountWithinRows }
+{}
+
 /// There are no more live items than rows.
 pub fn live_within_rows<B>()
     ensures { LiveWithinRows B }
@@ -46,4 +51,9 @@ pub fn most_within_rows<B>()
 /// rows.
 pub fn tallied_column<B>()
     ensures { TalliedColumn B }
+{}
+
+/// A worked example: how often each of three keys stands among three rows.
+pub fn tally_of_three()
+    ensures { TallyOfThree }
 {}

@@ -1,20 +1,20 @@
 -- The rows whose codes lie within both ends: from the first item with such a code to the last, and the same as by values.
-use Rattle.std.proofs.Common.{◌≡◌, ◌↔◌, ℕ, suc, zero, ◌+◌, ◌*◌, ◌<◌, ◌≤◌, Bool, true, false, ◌&&◌, leb, List, [], ◌∷◌, length, drop, get_or, map, slice_get, Option, Some, None, IsSome, refl, ap, ap₂, ◌∙◌, sym, subst, inl, inr, arith, le-leb, drop-cons}
+use Rattle.std.proofs.Common.{◌≡◌, ℕ, suc, zero, ◌+◌, ◌*◌, ◌<◌, ◌≤◌, Bool, true, false, ◌&&◌, leb, List, [], ◌∷◌, length, drop, get_or, slice_get, Option, Some, None, IsSome, refl, ap, ap₂, ◌∙◌, sym, inl, inr, arith, le-leb, drop-cons}
 use Rattle.std.proofs.lemmas.Bool.{lt-leb, cases_lt}
 use Rattle.std.specs.Option.{SomeIff, option_map}
-use Rattle.std.proofs.lemmas.List.{length-map, length-drop}
+use Rattle.std.proofs.lemmas.List.{length-drop}
 use Rattle.std.proofs.lemmas.Option.{slice_get-get_or}
 use Rattle.std.proofs.Math.ListN.{get_or-map}
 use Rattle.tree_model.specs.declared.Place.TheVariants.{Found}
 use Rattle.tree_model.specs.Trees.{Tree, inorder, size, height, path, IsPlaceOf}
-use Rattle.tree_model.specs.Places.{place, number, IsIncreasing, Compares}
+use Rattle.tree_model.specs.Places.{number, IsIncreasing}
 use Rattle.tree_model.specs.Items.{Item, values}
 use Rattle.tree_model.specs.Columns.{Column, items_of}
 use Rattle.tree_model.proofs.Ways.{length-inorder}
-use Rattle.tree_model.proofs.Ordered.{IsPlaceOf-place, place_compares}
 use Rattle.path_code.specs.Codes.{code_of}
 use Rattle.path_code.specs.Sums.{item_code}
-use Rattle.path_code.proofs.Rising.{Compares-codes, codes_order}
+use Rattle.tree_model.specs.Walks.{place_in}
+use Rattle.path_code.proofs.Rising.{codes_order, tree_codes_select}
 use Rattle.mope_base.specs.declared.body.Body.{Body}
 use Rattle.value_cipher.specs.Cipher.{unseal_of}
 use Rattle.code_changes.specs.Columns.{counts_of}
@@ -104,44 +104,19 @@ tested test low high t rank (item ∷ items) same =
     let rest = tested test low high t (suc rank) items (λ k h. let on : suc rank + k ≡ rank + suc k = omega arith in ap (λ (r : ℕ). within low high (item_code t r)) on ∙ same (suc k) (omega arith)) in
     ap₂ (λ (b : Bool) (n : ℕ). add_if b item.count n) first rest
 
-leb_same : (a b m n : ℕ) → ((a < b) ↔ (m < n)) → leb b a ≡ leb n m
-leb_same a b m n e =
-    elim (cases_lt a b) [
-      | inl lt ↦ let p : leb b a ≡ false = lt-leb b a lt in let q : leb n m ≡ false = lt-leb n m (e.0 lt) in rw (p, q) refl
-      | inr ge ↦
-          let back : n ≤ m = elim (cases_lt m n) [ inl lt ↦ absurd (omega (arith, e.1 lt)) | inr le ↦ le ] in
-          let p : leb b a ≡ true = le-leb b a ge in
-          let q : leb n m ≡ true = le-leb n m back in
-          rw (p, q) refl
-    ]
-
--- an item's code stands to the code of a value's place as the item's value to that value
-item_compares : (key : List ℕ) (t : Tree (Item Body)) (v k : ℕ) → IsIncreasing (values_of key (inorder t)) → height t ≤ 63 → k < length (inorder t)
-    → Compares (unseal_of key (get_or (inorder t) k the_item).body) v (item_code t k) (code_of (way_to key t v))
-unfolding values_of values way_to item_code IsPlaceOf
-item_compares key t v k up high h =
-    let f : Item Body → ℕ = λ item. unseal_of key item.body in
-    let items = inorder t in
-    let sizes : length (map f items) ≡ size t = length-map items f ∙ length-inorder t in
-    let among = subst (λ (n : ℕ). IsPlaceOf n (place (map f items) v)) sizes (IsPlaceOf-place (map f items) v up) in
-    let by_value = place_compares (map f items) v k (f the_item) up (omega (arith, length-map items f)) in
-    let by_item = subst (λ (n : ℕ). Compares n v (number (Found k)) (number (place (map f items) v))) (get_or-map f items k the_item) by_value in
-    Compares-codes t (Found k) (place (map f items) v) (f (get_or items k the_item)) v high (omega (arith, length-inorder t)) among by_item
-
 -- COUNT by codes is COUNT by values
 pub rows_coded-within : (key : List ℕ) (t : Tree (Item Body)) (low high : ℕ) → IsIncreasing (values_of key (inorder t)) → height t ≤ 63
     → rows_coded (code_of (way_to key t low)) (code_of (way_to key t high)) t 0 (inorder t) ≡ rows_within key low high (inorder t)
-unfolding rows_within within
+unfolding rows_within within values_of values way_to item_code place_in
 rows_coded-within key t low high up short =
+    let value : Item Body → ℕ = λ item. unseal_of key item.body in
+    let test : Body → Bool = λ body. within low high (unseal_of key body) in
     let low_code = code_of (way_to key t low) in
     let high_code = code_of (way_to key t high) in
-    let test : Body → Bool = λ body. within low high (unseal_of key body) in
     tested test low_code high_code t 0 (inorder t) (λ k h.
     let none : 0 + k ≡ k = omega arith in
-    let at_low = item_compares key t low k up short h in
-    let at_high = item_compares key t high k up short h in
-    ap (λ (r : ℕ). within low_code high_code (item_code t r)) none
-    ∙ sym (ap₂ (λ (a b : Bool). a && b) (leb_same _ _ _ _ at_low.lower) (leb_same _ _ _ _ at_high.higher)))
+    let select = tree_codes_select value t k the_item up short (omega (arith, h, length-inorder t)) in
+    ap (λ (r : ℕ). within low_code high_code (item_code t r)) none ∙ sym (select.between low high))
 
 -- ---- what the tree answers
 

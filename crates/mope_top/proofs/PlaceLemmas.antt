@@ -1,20 +1,17 @@
 -- The way to a value leads to its place and to no other, and what a row more there gives.
-use Rattle.std.proofs.Common.{◌≡◌, ℕ, suc, zero, ◌≤◌, ◌<◌, List, [], ◌∷◌, get_or, Option, Some, None, ap, ap₂, ◌∙◌, sym, subst, inl, inr, arith}
+use Rattle.std.proofs.Common.{◌≡◌, ℕ, suc, zero, ◌≤◌, ◌<◌, List, [], ◌∷◌, get_or, Option, Some, None, ap, ap₂, ◌∙◌, sym, arith}
 use Rattle.std.specs.Prelude.{MatchOption}
-use Rattle.std.proofs.lemmas.Bool.{cases_order}
-use Rattle.std.proofs.lemmas.List.{length-map}
 use Rattle.tree_model.specs.declared.Place.{Place}
 use Rattle.tree_model.specs.declared.Place.TheVariants.{Found, Gap}
 use Rattle.tree_model.specs.declared.Side.{Side}
-use Rattle.tree_model.specs.Trees.{Tree, inorder, size, height, path, IsPlaceOf}
+use Rattle.tree_model.specs.Trees.{Tree, inorder, size, height, IsPlaceOf}
 use Rattle.tree_model.specs.Places.{place, number, IsIncreasing}
 use Rattle.tree_model.specs.Items.{Item, values, add_item}
 use Rattle.tree_model.specs.Columns.{Column, items_of, add}
 use Rattle.tree_model.proofs.Kept.{items-add}
-use Rattle.tree_model.proofs.Ways.{length-inorder, same_from_number}
-use Rattle.tree_model.proofs.Ordered.{IsPlaceOf-place}
-use Rattle.path_code.specs.Codes.{code_of}
-use Rattle.path_code.proofs.Rising.{codes_order}
+use Rattle.tree_model.specs.Walks.{place_in}
+use Rattle.tree_model.proofs.Walked.{IsPlaceOf-place_in}
+use Rattle.path_code.proofs.Rising.{ways_tell_places}
 use Rattle.mope_base.specs.declared.body.Body.{Body}
 use Rattle.value_cipher.specs.Cipher.{seal_of, unseal_of, nonce_at}
 use Rattle.ope_tree.specs.Standing.{NamesNothing, IsPlaceAt}
@@ -22,27 +19,16 @@ use Rattle.ope_tree.specs.Conditions.{HasRoom}
 use Rattle.mope_top.specs.SealedItems.{values_of, way_to, add_if, rows_where, rows_of, IsSound, items_with}
 use Rattle.mope_top.proofs.CodedRows.{the_item, count_at-inorder}
 
--- two places of a tree with one way are one
-same_from_path : {A : Type 0} (t : Tree A) (p q : Place) → height t ≤ 63 → IsPlaceOf (size t) p → IsPlaceOf (size t) q → path t p ≡ path t q → p ≡ q
-same_from_path t p q high at_p at_q e =
-    elim (cases_order (number p) (number q)) [
-      | inl same ↦ same_from_number p q same
-      | inr (inl before) ↦ absurd (omega (arith, ap code_of e, (codes_order t p q high at_p at_q).0 before))
-      | inr (inr after) ↦ absurd (omega (arith, ap code_of e, (codes_order t q p high at_q at_p).0 after))
-    ]
-
 pub IsPlaceOf-values : (key : List ℕ) (t : Tree (Item Body)) (v : ℕ) → IsIncreasing (values_of key (inorder t)) → IsPlaceOf (size t) (place (values_of key (inorder t)) v)
-unfolding values_of values
-IsPlaceOf-values key t v up =
-    let f : Item Body → ℕ = λ item. unseal_of key item.body in
-    subst (λ (n : ℕ). IsPlaceOf n (place (values_of key (inorder t)) v)) (length-map (inorder t) f ∙ length-inorder t) (IsPlaceOf-place (values_of key (inorder t)) v up)
+unfolding values_of values place_in
+IsPlaceOf-values key t v up = IsPlaceOf-place_in (λ (item : Item Body). unseal_of key item.body) t v up
 
 pub place_at-way_to : (key : List ℕ) (t : Tree (Item Body)) (v : ℕ) (w : List Side) (found : Option Place) → IsIncreasing (values_of key (inorder t)) → height t ≤ 63
     → w ≡ way_to key t v → MatchOption found (NamesNothing t w) (λ p. IsPlaceAt (Item Body) t w p) → found ≡ Some (place (values_of key (inorder t)) v)
 unfolding way_to
 place_at-way_to key t v w None up high e h = absurd (h (place (values_of key (inorder t)) v) (IsPlaceOf-values key t v up) (sym e))
 place_at-way_to key t v w (Some p) up high e h =
-    ap Some (same_from_path t p (place (values_of key (inorder t)) v) high h.within (IsPlaceOf-values key t v up) (h.way_is ∙ e))
+    ap Some (ways_tell_places t p (place (values_of key (inorder t)) v) high h.within (IsPlaceOf-values key t v up) (h.way_is ∙ e))
 
 -- an item stands for no more rows than there are
 count-le-rows : (items : List (Item Body)) (rank : ℕ) → (get_or items rank the_item).count ≤ rows_of items

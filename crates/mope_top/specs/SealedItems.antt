@@ -1,8 +1,7 @@
 -- What the server part keeps of the rows: a search tree with an item for each value, in the values' order, with the sealed value and
 -- how many rows have it. The definitions with a key tell what this is to who has the key.
-use Rattle.std.specs.Prelude.{◌≡◌, ℕ, suc, ◌+◌, ◌<◌, ◌≤◌, Bool, true, false, ◌&&◌, leb, List, [], ◌∷◌, length}
+use Rattle.std.specs.Prelude.{◌≡◌, ℕ, suc, ◌+◌, ◌≤◌, Bool, true, false, ◌&&◌, leb, List, [], ◌∷◌, length}
 use Rattle.tree_model.specs.declared.Side.{Side}
-use Rattle.tree_model.specs.declared.Side.TheVariants.{Left, Right}
 use Rattle.tree_model.specs.Trees.{Tree, inorder, path}
 use Rattle.tree_model.specs.Places.{place, IsIncreasing}
 use Rattle.tree_model.specs.Items.{Item, values, add_item}
@@ -22,11 +21,6 @@ values_of key items = values (unseal_of key) items
 -- the way from the root to the place of v, under a key
 unfoldable pub way_to : List ℕ → Tree (Item Body) → ℕ → List Side
 way_to key t v = path t (place (values_of key (inorder t)) v)
-
--- the value lies on this side of another
-unfoldable pub LiesOn : Side → ℕ → ℕ → Type 0
-LiesOn Left v held = v < held
-LiesOn Right v held = held < v
 
 -- v lies within both ends
 unfoldable pub within : ℕ → ℕ → ℕ → Bool

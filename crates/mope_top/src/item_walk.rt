@@ -3,7 +3,8 @@ ghost use Rattle.std.specs.Prelude.{◌≡◌, ℕ, ◌≤◌, MatchOption};
 ghost use Rattle.tree_model.specs.Trees.{height, inorder};
 ghost use Rattle.tree_model.specs.Places.{IsIncreasing};
 ghost use Rattle.path_code.specs.Ways.{way};
-ghost use Rattle.mope_top.specs.SealedItems.{values_of, way_to, LiesOn};
+ghost use Rattle.tree_model.specs.Walks.{LiesOn};
+ghost use Rattle.mope_top.specs.SealedItems.{values_of, way_to};
 
 use ope_tree::{Stop, Tree};
 use path_code::{Path, child, root};

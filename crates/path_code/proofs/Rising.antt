@@ -1,16 +1,17 @@
 -- In every tree the codes of the places rise from left to right.
-use Rattle.std.proofs.Common.{◌≡◌, ◌↔◌, ℕ, suc, zero, ◌+◌, ◌*◌, ◌^◌, ◌<◌, ◌≤◌, List, length, map, get_or, ap, ◌∙◌, sym, subst, inl, inr, arith, le_trans}
-use Rattle.std.proofs.lemmas.Bool.{cases_order, cases_lt}
-use Rattle.std.proofs.lemmas.List.{length-map}
+use Rattle.std.proofs.Common.{◌≡◌, ◌↔◌, ℕ, suc, zero, ◌+◌, ◌*◌, ◌^◌, ◌<◌, ◌≤◌, Bool, ◌&&◌, ltb, leb, eqb, List, length, map, get_or, ap, ap₂, ◌∙◌, sym, subst, inl, inr, arith, le_trans, lt-ltb, le-ltb, le-leb, eq-eqb, ne_eqb}
+use Rattle.std.proofs.lemmas.Bool.{cases_order, cases_lt, cases_eq, lt-leb}
 use Rattle.std.proofs.Math.ListN.{get_or-map}
 use Rattle.tree_model.specs.declared.Side.TheVariants.{Left, Right}
 use Rattle.tree_model.specs.declared.Place.{Place}
-use Rattle.tree_model.specs.Trees.{Tree, leaf, node, size, height, IsPlaceOf, path, past, balanced}
+use Rattle.tree_model.specs.Trees.{Tree, leaf, node, inorder, size, height, IsPlaceOf, path, past, balanced}
 use Rattle.tree_model.specs.Places.{number, place, IsIncreasing, Compares}
 use Rattle.tree_model.specs.declared.Place.TheVariants.{Found, Gap}
-use Rattle.tree_model.proofs.Halves.{size-balanced, height-balanced}
-use Rattle.tree_model.proofs.Ordered.{place_compares, IsPlaceOf-place}
-use Rattle.path_code.specs.Laws.{code_in}
+use Rattle.tree_model.proofs.Halves.{inorder-balanced, size-balanced, height-balanced}
+use Rattle.tree_model.proofs.Ordered.{place_compares}
+use Rattle.tree_model.specs.Walks.{place_in}
+use Rattle.tree_model.proofs.Walked.{IsPlaceOf-place_in, length-values}
+use Rattle.path_code.specs.Laws.{code_in, ComparesByCode, SelectsByCode}
 use Rattle.tree_model.proofs.Ways.{path-left, path-here, path-right, length-path, number-past, number-le, same_from_number}
 use Rattle.path_code.specs.Codes.{bit, code_within, code_of}
 use Rattle.path_code.proofs.Spelling.{code_within-nil, code_within-cons, code_within-positive, code_within-lt}
@@ -101,15 +102,21 @@ Compares-codes t p q item v high at_p at_q c =
       higher = (λ h. down.0 (c.higher.0 h), λ h. c.higher.1 (down.1 h));
     }
 
+pub tree_codes_compare : {A : Type 0} (v : A → ℕ) (t : Tree A) (bound rank : ℕ) (d : A) → IsIncreasing (map v (inorder t)) → height t ≤ 63 → rank < size t → Compares (v (get_or (inorder t) rank d)) bound (code_in t (Found rank)) (code_in t (place_in v t bound))
+unfolding IsPlaceOf place_in
+tree_codes_compare v t bound rank d up high within =
+    let among = IsPlaceOf-place_in v t bound up in
+    let by_value = place_compares (map v (inorder t)) bound rank (v d) up (omega (arith, within, length-values v t)) in
+    let by_item = subst (λ (n : ℕ). Compares n bound (number (Found rank)) (number (place_in v t bound))) (get_or-map v (inorder t) rank d) by_value in
+    Compares-codes t (Found rank) (place_in v t bound) (v (get_or (inorder t) rank d)) bound high within among by_item
+
 pub codes_compare : {A : Type 0} (v : A → ℕ) (items : List A) (bound rank : ℕ) (d : A) → IsIncreasing (map v items) → length items < 2 ^ 63 → rank < length items → Compares (v (get_or items rank d)) bound (code_in (balanced items) (Found rank)) (code_in (balanced items) (place (map v items) bound))
-unfolding IsPlaceOf
-codes_compare v items bound rank d up few within =
-    let same = length-map items v in
+unfolding place_in
+codes_compare {A} v items bound rank d up few within =
+    let items_are = inorder-balanced items in
     let size_is = size-balanced items in
-    let among = subst (λ (n : ℕ). IsPlaceOf n (place (map v items) bound)) (same ∙ sym size_is) (IsPlaceOf-place (map v items) bound up) in
-    let by_value = place_compares (map v items) bound rank (v d) up (omega arith) in
-    let by_item = subst (λ (n : ℕ). Compares n bound (number (Found rank)) (number (place (map v items) bound))) (get_or-map v items rank d) by_value in
-    Compares-codes (balanced items) (Found rank) (place (map v items) bound) (v (get_or items rank d)) bound (height-balanced items 63 few) (omega arith) among by_item
+    subst (λ (xs : List A). Compares (v (get_or xs rank d)) bound (code_in (balanced items) (Found rank)) (code_in (balanced items) (place (map v xs) bound))) items_are
+    (tree_codes_compare v (balanced items) bound rank d (subst (λ (xs : List A). IsIncreasing (map v xs)) (sym items_are) up) (height-balanced items 63 few) (omega arith))
 
 pub codes_select : {A : Type 0} (v : A → ℕ) (items : List A) (low high rank : ℕ) (d : A) → IsIncreasing (map v items) → length items < 2 ^ 63 → rank < length items → ((low ≤ v (get_or items rank d)) × (v (get_or items rank d) ≤ high)) ↔ ((code_in (balanced items) (place (map v items) low) ≤ code_in (balanced items) (Found rank)) × (code_in (balanced items) (Found rank) ≤ code_in (balanced items) (place (map v items) high)))
 codes_select v items low high rank d up few within =
@@ -118,3 +125,52 @@ codes_select v items low high rank d up few within =
       λ h. (le_by_lt _ _ _ _ at_low.lower.1 h.0, le_by_lt _ _ _ _ at_high.higher.1 h.1),
       λ h. (le_by_lt _ _ _ _ at_low.lower.0 h.0, le_by_lt _ _ _ _ at_high.higher.0 h.1),
     )
+
+-- ---- the comparisons as tests
+
+pub ltb_same : (a b m n : ℕ) → ((a < b) ↔ (m < n)) → ltb a b ≡ ltb m n
+ltb_same a b m n e =
+    elim (cases_lt a b) [
+      | inl lt ↦ lt-ltb a b lt ∙ sym (lt-ltb m n (e.0 lt))
+      | inr ge ↦ le-ltb a b ge ∙ sym (le-ltb m n (le_by_lt m n a b e.1 ge))
+    ]
+
+pub leb_same : (a b m n : ℕ) → ((a < b) ↔ (m < n)) → leb b a ≡ leb n m
+leb_same a b m n e =
+    elim (cases_lt a b) [
+      | inl lt ↦ lt-leb b a lt ∙ sym (lt-leb n m (e.0 lt))
+      | inr ge ↦ le-leb b a ge ∙ sym (le-leb n m (le_by_lt m n a b e.1 ge))
+    ]
+
+pub eqb_same : (a b m n : ℕ) → ((a ≡ b) ↔ (m ≡ n)) → eqb a b ≡ eqb m n
+eqb_same a b m n e =
+    elim (cases_eq a b) [
+      | inl same ↦ eq-eqb a b same ∙ sym (eq-eqb m n (e.0 same))
+      | inr other ↦ ne_eqb a b other ∙ sym (ne_eqb m n (λ f. other (e.1 f)))
+    ]
+
+pub ComparesByCode-from : (value bound code bound_code : ℕ) → Compares value bound code bound_code → ComparesByCode value bound code bound_code
+ComparesByCode-from value bound code bound_code c =
+    record {
+      less = ltb_same value bound code bound_code c.lower;
+      at_most = leb_same bound value bound_code code c.higher;
+      equal = eqb_same value bound code bound_code c.equal;
+      at_least = leb_same value bound code bound_code c.lower;
+      greater = ltb_same bound value bound_code code c.higher;
+    }
+
+pub tree_codes_select : {A : Type 0} (v : A → ℕ) (t : Tree A) (rank : ℕ) (d : A) → IsIncreasing (map v (inorder t)) → height t ≤ 63 → rank < size t → SelectsByCode A v t (v (get_or (inorder t) rank d)) (code_in t (Found rank))
+tree_codes_select v t rank d up high within =
+    let value = v (get_or (inorder t) rank d) in
+    let code = code_in t (Found rank) in
+    let by = λ (bound : ℕ). ComparesByCode-from value bound code (code_in t (place_in v t bound)) (tree_codes_compare v t bound rank d up high within) in
+    record { by_bound = by; between = λ low high. ap₂ (λ (a b : Bool). a && b) (by low).at_least (by high).at_most }
+
+-- two places of a tree with one way are one
+pub ways_tell_places : {A : Type 0} (t : Tree A) (p q : Place) → height t ≤ 63 → IsPlaceOf (size t) p → IsPlaceOf (size t) q → path t p ≡ path t q → p ≡ q
+ways_tell_places t p q high at_p at_q e =
+    elim (cases_order (number p) (number q)) [
+      | inl same ↦ same_from_number p q same
+      | inr (inl before) ↦ absurd (omega (arith, ap code_of e, (codes_order t p q high at_p at_q).0 before))
+      | inr (inr after) ↦ absurd (omega (arith, ap code_of e, (codes_order t q p high at_q at_p).0 after))
+    ]

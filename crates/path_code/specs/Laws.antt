@@ -1,9 +1,10 @@
 -- The codes of places rise in their order: the statements of the laws that this crate's functions without a body prove.
-use Rattle.std.specs.Prelude.{◌≡◌, ◌↔◌, ℕ, ◌+◌, ◌^◌, ◌<◌, ◌≤◌, List, [], ◌∷◌, length, map, get_or}
+use Rattle.std.specs.Prelude.{◌≡◌, ◌↔◌, ℕ, ◌+◌, ◌^◌, ◌<◌, ◌≤◌, ◌&&◌, ◌==◌, nat_lt, nat_le, List, [], ◌∷◌, length, map, get_or}
 use Rattle.tree_model.specs.declared.Place.{Place}
 use Rattle.tree_model.specs.declared.Place.TheVariants.{Found, Gap}
-use Rattle.tree_model.specs.Trees.{Tree, size, height, path, balanced, IsPlaceOf}
+use Rattle.tree_model.specs.Trees.{Tree, inorder, size, height, path, balanced, IsPlaceOf}
 use Rattle.tree_model.specs.Places.{place, number, IsIncreasing, Compares}
+use Rattle.tree_model.specs.Walks.{place_in}
 use Rattle.path_code.specs.Codes.{code_of}
 use Rattle.path_code.specs.Ways.{way}
 use Rattle.path_code.specs.declared.paths.Path.{Path}
@@ -27,6 +28,31 @@ CodesCompare A = (v : A → ℕ) (items : List A) (bound rank : ℕ) (d : A) →
 -- so the items within two bounds are those whose codes lie within the codes of the bounds' places
 abbrev pub CodesSelect : Type 0 → Type 0
 CodesSelect A = (v : A → ℕ) (items : List A) (low high rank : ℕ) (d : A) → IsIncreasing (map v items) → length items < 2 ^ 63 → rank < length items → ((low ≤ v (get_or items rank d)) × (v (get_or items rank d) ≤ high)) ↔ ((code_in (balanced items) (place (map v items) low) ≤ code_in (balanced items) (Found rank)) × (code_in (balanced items) (Found rank) ≤ code_in (balanced items) (place (map v items) high)))
+
+-- in every tree of items with increasing values whose ways have at most 63 steps, codes compare as values do: an item's code stands to
+-- the code of a bound's place as the item's value stands to the bound
+abbrev pub TreeCodesCompare : Type 0 → Type 0
+TreeCodesCompare A = (v : A → ℕ) (t : Tree A) (bound rank : ℕ) (d : A) → IsIncreasing (map v (inorder t)) → height t ≤ 63 → rank < size t → Compares (v (get_or (inorder t) rank d)) bound (code_in t (Found rank)) (code_in t (place_in v t bound))
+
+-- each comparison of a value with a bound answers as that of their codes
+pub record ComparesByCode (value bound code bound_code : ℕ) : Type 0 where
+  pub less : nat_lt value bound ≡ nat_lt code bound_code
+  pub at_most : nat_le value bound ≡ nat_le code bound_code
+  pub equal : (value == bound) ≡ (code == bound_code)
+  pub at_least : nat_le bound value ≡ nat_le bound_code code
+  pub greater : nat_lt bound value ≡ nat_lt bound_code code
+
+-- so a test of an item's value, by one bound or between two, selects it exactly where the same test of its code does
+pub record SelectsByCode (A : Type 0) (v : A → ℕ) (t : Tree A) (value code : ℕ) : Type 0 where
+  pub by_bound : (bound : ℕ) → ComparesByCode value bound code (code_in t (place_in v t bound))
+  pub between : (low high : ℕ) → (nat_le low value && nat_le value high) ≡ (nat_le (code_in t (place_in v t low)) code && nat_le code (code_in t (place_in v t high)))
+
+abbrev pub TreeCodesSelect : Type 0 → Type 0
+TreeCodesSelect A = (v : A → ℕ) (t : Tree A) (rank : ℕ) (d : A) → IsIncreasing (map v (inorder t)) → height t ≤ 63 → rank < size t → SelectsByCode A v t (v (get_or (inorder t) rank d)) (code_in t (Found rank))
+
+-- two places of a tree with one way are one
+abbrev pub WaysTellPlaces : Type 0 → Type 0
+WaysTellPlaces A = (t : Tree A) (p q : Place) → height t ≤ 63 → IsPlaceOf (size t) p → IsPlaceOf (size t) q → path t p ≡ path t q → p ≡ q
 
 -- no two paths have one code
 abbrev pub CodesTellPaths : Type 0

@@ -1,6 +1,6 @@
 -- What a list of operations on a column does to the codes of its items: the pairs of old and new codes that differ, the codes that are
 -- given up, and the codes of new items.
-use Rattle.std.specs.Prelude.{ℕ, suc, Bool, true, false, ◌||◌, ◌==◌, List, [], ◌∷◌, Option, Some, None}
+use Rattle.std.specs.Prelude.{ℕ, suc, Bool, true, false, ◌==◌, List, [], ◌∷◌, Option, Some, None}
 use Rattle.std.specs.List.{range_with_len}
 use Rattle.tree_model.specs.declared.Place.TheVariants.{Found}
 use Rattle.tree_model.specs.Trees.{Tree, size, path}

@@ -1,5 +1,5 @@
 //! Laws of codes. Each function is empty: its contract is the law.
-ghost use Rattle.path_code.specs.Laws.{CodesCompare, CodesOfFive, CodesRise, CodesSelect, CodesTellPaths, GapsLieBetween};
+ghost use Rattle.path_code.specs.Laws.{CodesCompare, CodesOfFive, CodesRise, CodesSelect, CodesTellPaths, GapsLieBetween, TreeCodesCompare, TreeCodesSelect, WaysTellPlaces};
 
 /// In every tree whose ways have at most 63 steps the codes of the places, gaps and items, rise from left to right.
 pub fn codes_rise<T>()
@@ -21,6 +21,22 @@ pub fn codes_compare<T>()
 /// the codes of the bounds' places.
 pub fn codes_select<T>()
     ensures { CodesSelect T }
+{}
+
+/// In every tree whose ways have at most 63 steps, of items whose values increase, the code of an item is below, equal to or
+/// above the code of a bound's place exactly as its value is below, equal to or above the bound.
+pub fn tree_codes_compare<T>()
+    ensures { TreeCodesCompare T }
+{}
+
+/// In such a tree each of `<`, `<=`, `=`, `>=`, `>` and BETWEEN selects by codes what it selects by values.
+pub fn tree_codes_select<T>()
+    ensures { TreeCodesSelect T }
+{}
+
+/// Two places of a tree to which one way leads are one.
+pub fn ways_tell_places<T>()
+    ensures { WaysTellPlaces T }
 {}
 
 /// No two paths have one code, so `path_of` gives back the path whose code it reads.

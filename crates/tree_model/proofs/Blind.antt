@@ -177,7 +177,7 @@ live_items-map f (x ∷ xs) =
           ∙ ap (λ (ys : List _). map (map_item f) ys) (sym (live_items-no x xs none))
     ]
 
-live-map : {B C : Type 0} (f : B → C) (xs : List (Item B)) → live (map (map_item f) xs) ≡ live xs
+pub live-map : {B C : Type 0} (f : B → C) (xs : List (Item B)) → live (map (map_item f) xs) ≡ live xs
 unfolding live
 live-map f xs = ap length (live_items-map f xs) ∙ length-map (live_items xs) (map_item f)
 
@@ -188,7 +188,7 @@ pub is_sparse-map : {B C : Type 0} (f : B → C) (most : ℕ) (t : Tree (Item B)
 unfolding is_sparse
 is_sparse-map f most t = ap (λ (n : ℕ). ltb (3 * n) (2 * most)) (live-map_tree f t)
 
-is_dead-map : {B C : Type 0} (f : B → C) (xs : List (Item B)) (rank : ℕ) → is_dead (slice_get (map (map_item f) xs) rank) ≡ is_dead (slice_get xs rank)
+pub is_dead-map : {B C : Type 0} (f : B → C) (xs : List (Item B)) (rank : ℕ) → is_dead (slice_get (map (map_item f) xs) rank) ≡ is_dead (slice_get xs rank)
 unfolding is_dead has_rows map_item
 is_dead-map f [] rank = refl
 is_dead-map f (x ∷ xs) zero = refl

@@ -18,3 +18,10 @@ pub mod Risen
 pub mod Parts
 pub mod Outside
 pub mod ColumnOrder
+pub mod CarriedRanks
+pub mod RankSteps
+pub mod RankLaws
+pub mod TalliedRows
+pub mod TalliedItems
+pub mod SplitPlaces
+pub mod Walked

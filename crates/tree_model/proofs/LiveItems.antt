@@ -35,7 +35,7 @@ live-le (x ∷ xs) =
     elim (cases_lt 0 x.count) [ inl some ↦ omega (arith, live-yes x xs some) | inr none ↦ omega (arith, live-no x xs none) ]
 
 -- one more item in front counts at most once
-live-cons : {B : Type 0} (x : Item B) (xs ys : List (Item B)) (m : ℕ) → live ys ≡ m + live xs → live (x ∷ ys) ≡ m + live (x ∷ xs)
+pub live-cons : {B : Type 0} (x : Item B) (xs ys : List (Item B)) (m : ℕ) → live ys ≡ m + live xs → live (x ∷ ys) ≡ m + live (x ∷ xs)
 live-cons x xs ys m e =
     elim (cases_lt 0 x.count) [ inl some ↦ omega (arith, live-yes x xs some, live-yes x ys some) | inr none ↦ omega (arith, live-no x xs none, live-no x ys none) ]
 
@@ -106,7 +106,7 @@ AllLive-removed [] (suc rank) all = all
 AllLive-removed (x ∷ xs) zero all = all.1
 AllLive-removed (x ∷ xs) (suc rank) all = (all.0, AllLive-removed xs rank all.1)
 
-alive : {B : Type 0} (x : Item B) → is_dead (Some x) ≡ false → 0 < x.count
+pub alive : {B : Type 0} (x : Item B) → is_dead (Some x) ≡ false → 0 < x.count
 unfolding is_dead has_rows
 alive x h = elim (cases_lt 0 x.count) [
   | inl some ↦ some
@@ -134,13 +134,13 @@ unfolding drop_item gone
 drop_item-ordinary xs rank = refl
 
 -- no drop gives more items
-length-remove-le : {A : Type 0} (xs : List A) (rank : ℕ) → length (remove xs rank) ≤ length xs
+pub length-remove-le : {A : Type 0} (xs : List A) (rank : ℕ) → length (remove xs rank) ≤ length xs
 length-remove-le [] zero = omega arith
 length-remove-le [] (suc rank) = omega arith
 length-remove-le (x ∷ xs) zero = omega arith
 length-remove-le (x ∷ xs) (suc rank) = let ih = length-remove-le xs rank in omega arith
 
-length-gone-le : {A : Type 0} (b : Bool) (xs : List A) (rank : ℕ) → length (gone b xs rank) ≤ length xs
+pub length-gone-le : {A : Type 0} (b : Bool) (xs : List A) (rank : ℕ) → length (gone b xs rank) ≤ length xs
 unfolding gone
 length-gone-le true xs rank = length-remove-le xs rank
 length-gone-le false xs rank = omega arith

@@ -13,13 +13,13 @@ use Rattle.tree_model.proofs.LiveItems.{live_items-yes, live_items-no, live_item
 use Rattle.tree_model.proofs.Changes.{map-change_at}
 use Rattle.tree_model.proofs.Summed.{origins-nothing, bodies-insert}
 
-IsRising-lower : (low m high : ℕ) (from : List (Option ℕ)) → low ≤ m → IsRising m high from → IsRising low high from
+pub IsRising-lower : (low m high : ℕ) (from : List (Option ℕ)) → low ≤ m → IsRising m high from → IsRising low high from
 unfolding IsRising
 IsRising-lower low m high [] le up = tt
 IsRising-lower low m high (None ∷ from) le up = IsRising-lower low m high from le up
 IsRising-lower low m high (Some rank ∷ from) le up = (omega (arith, up.0), up.1, up.2)
 
-IsRising-rest : (low high : ℕ) (o : Option ℕ) (from : List (Option ℕ)) → IsRising low high (o ∷ from) → IsRising low high from
+pub IsRising-rest : (low high : ℕ) (o : Option ℕ) (from : List (Option ℕ)) → IsRising low high (o ∷ from) → IsRising low high from
 unfolding IsRising
 IsRising-rest low high None from up = up
 IsRising-rest low high (Some rank) from up = IsRising-lower low (suc rank) high from (omega (arith, up.0)) up.2
@@ -39,7 +39,7 @@ IsRising-remove low high (o ∷ from) zero up = IsRising-rest low high o from up
 IsRising-remove low high (None ∷ from) (suc rank) up = IsRising-remove low high from rank up
 IsRising-remove low high (Some k ∷ from) (suc rank) up = (up.0, up.1, IsRising-remove (suc k) high from rank up.2)
 
-IsRising-ranks : (first n : ℕ) → IsRising first (first + n) (map Some (range_with_len first n))
+pub IsRising-ranks : (first n : ℕ) → IsRising first (first + n) (map Some (range_with_len first n))
 unfolding IsRising
 IsRising-ranks first zero = tt
 IsRising-ranks first (suc n) =
@@ -49,14 +49,14 @@ IsRising-ranks first (suc n) =
 
 -- ---- over the items
 
-Rises : ℕ → ℕ → List (Item (Option ℕ)) → Type 0
+unfoldable pub Rises : ℕ → ℕ → List (Item (Option ℕ)) → Type 0
 Rises low high items = IsRising low high (bodies items)
 
-bodies-changed : (f : Item (Option ℕ) → Item (Option ℕ)) → ((x : Item (Option ℕ)) → (f x).body ≡ x.body) → (items : List (Item (Option ℕ))) (rank : ℕ) → bodies (change_at f items rank) ≡ bodies items
+pub bodies-changed : (f : Item (Option ℕ) → Item (Option ℕ)) → ((x : Item (Option ℕ)) → (f x).body ≡ x.body) → (items : List (Item (Option ℕ))) (rank : ℕ) → bodies (change_at f items rank) ≡ bodies items
 unfolding bodies
 bodies-changed f same items rank = map-change_at (λ (item : Item (Option ℕ)). item.body) f same items rank
 
-bodies-cons : (x : Item (Option ℕ)) (items : List (Item (Option ℕ))) → bodies (x ∷ items) ≡ x.body ∷ bodies items
+pub bodies-cons : (x : Item (Option ℕ)) (items : List (Item (Option ℕ))) → bodies (x ∷ items) ≡ x.body ∷ bodies items
 unfolding bodies
 bodies-cons x items = refl
 
@@ -65,7 +65,7 @@ unfolding Rises add_item one_more
 Rises-add low high (Found rank) items up = subst (IsRising low high) (sym (bodies-changed one_more (λ x. refl) items rank)) up
 Rises-add low high (Gap rank) items up = subst (IsRising low high) (sym (bodies-insert rank items)) (IsRising-insert low high (bodies items) rank up)
 
-bodies-remove : (items : List (Item (Option ℕ))) (rank : ℕ) → bodies (remove items rank) ≡ remove (bodies items) rank
+pub bodies-remove : (items : List (Item (Option ℕ))) (rank : ℕ) → bodies (remove items rank) ≡ remove (bodies items) rank
 unfolding bodies
 bodies-remove [] zero = refl
 bodies-remove [] (suc rank) = refl
@@ -77,7 +77,7 @@ unfolding Rises gone
 Rises-gone low high true items rank up = subst (IsRising low high) (sym (bodies-remove items rank)) (IsRising-remove low high (bodies items) rank up)
 Rises-gone low high false items rank up = up
 
-Rises-drop : (low high : ℕ) (same_time : Bool) (items : List (Item (Option ℕ))) (rank : ℕ) → Rises low high items → Rises low high (drop_item same_time items rank)
+pub Rises-drop : (low high : ℕ) (same_time : Bool) (items : List (Item (Option ℕ))) (rank : ℕ) → Rises low high items → Rises low high (drop_item same_time items rank)
 unfolding drop_item Rises one_less
 Rises-drop low high same_time items rank up =
     let fewer = change_at one_less items rank in

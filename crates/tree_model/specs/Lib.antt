@@ -7,6 +7,11 @@ pub mod Removal
 pub mod Columns
 pub mod Sums
 pub mod Carried
+pub mod Ranks
+pub mod Tallies
 pub mod ColumnLaws
 pub mod Parts
+pub mod Walks
+pub mod RowLaws
+pub mod TallyLaws
 pub mod Laws

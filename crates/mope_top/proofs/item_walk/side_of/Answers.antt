@@ -1,6 +1,6 @@
 use Rattle.std.specs.Cmp.{ranked}
 use Rattle.std.proofs.Common.{Less, Greater}
-use Rattle.mope_top.specs.SealedItems.{LiesOn}
+use Rattle.tree_model.specs.Walks.{LiesOn}
 use Rattle.mope_top.proofs.item_walk.side_of.Goals as goal
 
 pub returns-in-Less : goal.returns-in-Less

@@ -10,7 +10,7 @@ use Rattle.path_code.specs.Codes.{code_of}
 use Rattle.path_code.specs.Sums.{unless}
 use Rattle.path_code.specs.declared.moves.Recode.{Recode}
 use Rattle.code_changes.specs.Changes.{differing}
-use Rattle.ope_tree.specs.Listed.{codes_along}
+use Rattle.code_changes.specs.Removal.{codes_along}
 
 -- the codes of a tree after those of its left side and its own
 pub coded : {A : Type 0} (before left all : List ℕ) (way : List Side) (x : A) (l r t : Tree A) → left ≡ before ++ codes_along (way ++ Left ∷ []) l → all ≡ (left ++ code_of way ∷ []) ++ codes_along (way ++ Right ∷ []) r → t ≡ node l x r → all ≡ before ++ codes_along way t

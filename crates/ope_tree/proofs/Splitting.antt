@@ -21,8 +21,8 @@ use Rattle.code_changes.specs.Changes.{differing}
 use Rattle.code_changes.specs.Columns.{codes_of as codes_by_rank}
 use Rattle.code_changes.proofs.Gaps.{gap_adds_item}
 use Rattle.code_changes.proofs.Leading.{same_sum}
-use Rattle.ope_tree.proofs.RankedCodes.{codes_along-by_rank}
-use Rattle.ope_tree.specs.Listed.{codes_along}
+use Rattle.code_changes.proofs.RankedCodes.{codes_along-by_rank}
+use Rattle.code_changes.specs.Removal.{codes_along}
 use Rattle.ope_tree.specs.Settling.{moved_in, added_in}
 use Rattle.ope_tree.proofs.CodeLists.{length-codes_along}
 

@@ -28,14 +28,6 @@ pub codes_along-leaf : {A : Type 0} (way : List Side) (t : Tree A) → t ≡ lea
 unfolding codes_along
 codes_along-leaf way t e = ap (λ (u : Tree _). codes_along way u) e
 
-pub length-codes_along : {A : Type 0} (way : List Side) (t : Tree A) → length (codes_along way t) ≡ size t
-unfolding codes_along size
-length-codes_along way leaf = refl
-length-codes_along way (node l x r) =
-    let left = length-codes_along (way ++ Left ∷ []) l in
-    let right = length-codes_along (way ++ Right ∷ []) r in
-    length-append (codes_along (way ++ Left ∷ []) l) (code_of way ∷ codes_along (way ++ Right ∷ []) r) ∙ ap₂ (λ (m n : ℕ). m + suc n) left right
-
 -- ---- pairs that differ
 
 pub differing-step : (before after : List ℕ) (at : ℕ) → at < length before → at < length after → differing (drop at before) (drop at after) ≡ unless (eqb (get_or before at 0) (get_or after at 0)) (record { old = get_or before at 0; new = get_or after at 0 }) [] ++ differing (drop (at + 1) before) (drop (at + 1) after)

@@ -1,8 +1,7 @@
 -- One row fewer in both modes: where the item goes alone, and where the modes do the same.
-use Rattle.std.proofs.Common.{◌≡◌, ℕ, suc, zero, ◌+◌, ◌*◌, ◌<◌, ◌≤◌, Bool, true, false, not, ◌&&◌, ltb, List, [], ◌∷◌, length, map, remove, get_or, slice_get, Option, Some, None, refl, ap, ap₂, ◌∙◌, sym, inl, inr, arith, lt-ltb}
+use Rattle.std.proofs.Common.{◌≡◌, ℕ, suc, zero, ◌<◌, ◌≤◌, Bool, true, false, not, ◌&&◌, ltb, List, [], ◌∷◌, length, map, remove, get_or, slice_get, Option, Some, refl, ap, ap₂, ◌∙◌, sym, inl, inr, arith, lt-ltb}
 use Rattle.std.specs.List.{range_with_len}
 use Rattle.std.proofs.lemmas.Bool.{cases_lt, cases_Bool}
-use Rattle.std.proofs.lemmas.List.{length-map}
 use Rattle.std.proofs.lemmas.List.Edits.{length-remove}
 use Rattle.std.proofs.lemmas.List.FromFn.{length-range_with_len}
 use Rattle.tree_model.specs.Trees.{Tree, inorder, size, balanced}
@@ -15,7 +14,7 @@ use Rattle.tree_model.proofs.Changes.{length-change_at}
 use Rattle.tree_model.proofs.LiveItems.{live_items-yes, live_items-no}
 use Rattle.tree_model.proofs.Removals.{inorder-change_tree, inorder-remove_tree}
 use Rattle.tree_model.proofs.Blind.{column}
-use Rattle.path_code.specs.Sums.{item_code, Sum, sum_by_origins, sum_of}
+use Rattle.path_code.specs.Sums.{item_code, sum_by_origins, sum_of}
 use Rattle.code_changes.specs.Changes.{differing, with_rows, without_rows}
 use Rattle.code_changes.specs.Columns.{codes_of, counts_of, lowered}
 use Rattle.code_changes.specs.Removal.{removal_moved, removal_sum, goes_alone}
@@ -106,7 +105,7 @@ pruned-ordinary same_time t rank most h =
     elim (cases_Bool goes) [
       | inl went ↦
           ap (λ (u : Tree _). pruned u most) (taken-yes goes t rank went)
-          ∙ pruned-dead t rank most (and_right same_time (is_dead (slice_get (inorder t) rank)) yes) (neither goes (is_sparse most (inorder t)) went h)
+          ∙ pruned-dead t rank most (and_right same_time (is_dead (slice_get (inorder t) rank)) went) (neither goes (is_sparse most (inorder t)) went h)
       | inr stayed ↦ ap (λ (u : Tree _). pruned u most) (taken-no goes t rank stayed)
     ]
 

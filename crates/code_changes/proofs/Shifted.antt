@@ -1,5 +1,5 @@
 -- Where an item is taken out of a tree, only the codes of the part that moves up and of the item that takes its place change.
-use Rattle.std.proofs.Common.{◌≡◌, ℕ, suc, zero, ◌+◌, ◌-◌, ◌<◌, Bool, true, false, eqb, List, [], ◌∷◌, ◌++◌, length, remove, refl, ap, ap₂, ◌∙◌, sym, inl, inr, arith, append-nil}
+use Rattle.std.proofs.Common.{◌≡◌, ℕ, suc, ◌+◌, ◌-◌, ◌<◌, Bool, true, false, eqb, List, [], ◌∷◌, ◌++◌, length, remove, refl, ap, ap₂, ◌∙◌, sym, inl, inr, arith, append-nil}
 use Rattle.std.proofs.lemmas.Bool.{cases_order}
 use Rattle.std.proofs.lemmas.List.{length-append}
 use Rattle.std.proofs.lemmas.List.Edits.{length-remove, remove-append_left, remove-append_right}
@@ -8,17 +8,16 @@ use Rattle.tree_model.specs.declared.Side.TheVariants.{Left, Right}
 use Rattle.tree_model.specs.declared.Place.TheVariants.{Found}
 use Rattle.tree_model.specs.Trees.{Tree, leaf, node, inorder, size}
 use Rattle.tree_model.specs.Places.{number}
-use Rattle.tree_model.specs.Removal.{by_side, change_tree, first_or, without_first, joined, remove_tree}
+use Rattle.tree_model.specs.Removal.{by_side, change_tree, without_first, joined, remove_tree}
 use Rattle.tree_model.proofs.Ways.{turn_at-left, turn_at-here, turn_at-right, length-inorder}
 use Rattle.tree_model.proofs.Removals.{change-left, change-here, change-right, size-change_tree, inorder-remove_tree, remove-left, remove-here, remove-right}
 use Rattle.path_code.specs.Codes.{code_of}
-use Rattle.path_code.specs.Sums.{item_code, unless, Sum}
+use Rattle.path_code.specs.Sums.{unless, Sum}
 use Rattle.path_code.specs.declared.moves.Recode.{Recode}
 use Rattle.code_changes.specs.Changes.{differing}
 use Rattle.code_changes.specs.Columns.{codes_of}
 use Rattle.code_changes.specs.Removal.{codes_along, moved_up, first_moved, joined_moved, removal_moved, removal_sum}
 use Rattle.code_changes.proofs.Pairs.{differing-itself}
-use Rattle.code_changes.proofs.ItemCodes.{get_or-codes_of}
 use Rattle.code_changes.proofs.RankedCodes.{codes_along-by_rank}
 use Rattle.code_changes.proofs.Staying.{codes_of-change_tree, item_code-change_tree}
 

@@ -1,5 +1,5 @@
 -- What one row fewer does in same-time mode: the statements of the laws that this crate's functions without a body prove.
-use Rattle.std.specs.Prelude.{◌≡◌, ℕ, suc, ◌<◌, Bool, true, false, List, [], ◌∷◌, length, remove}
+use Rattle.std.specs.Prelude.{◌≡◌, ℕ, suc, ◌<◌, Bool, true, false, [], ◌∷◌, length, remove}
 use Rattle.tree_model.specs.Trees.{Tree, size}
 use Rattle.tree_model.specs.Items.{one_less, change_at}
 use Rattle.tree_model.specs.Removal.{remove_tree}

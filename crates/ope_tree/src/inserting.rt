@@ -71,7 +71,7 @@ fn raised(
     requires room { count_at (column_of nodes.old root most) rank + 1 < 2 ^ 32 }
     ensures sound { IfOk result (λ done. IsSound nodes.new done.root done.alive done.most false) }
     ensures column { (body : Body) → IfOk result (λ done. column_of nodes.new done.root done.most ≡ add (Found rank) body (column_of nodes.old root most)) }
-    ensures change { (same_time : Bool) (body : Body) → IfOk result (λ done. done.change ≡ sum_of same_time (Add (Found rank) body ∷ []) (column_of nodes.old root most)) }
+    ensures change { (body : Body) → IfOk result (λ done. done.change ≡ sum_of false (Add (Found rank) body ∷ []) (column_of nodes.old root most)) }
 {
     let alloc = nodes.allocator();
     let entry = entry_at(nodes, root, rank).unwrap();
@@ -98,7 +98,7 @@ fn widened(
     requires few { size (tree_of nodes.old root) < 2 ^ 31 }
     ensures sound { IfOk result (λ done. IsSound nodes.new done.root done.alive done.most false) }
     ensures column { IfOk result (λ done. column_of nodes.new done.root done.most ≡ add (Gap rank) body (column_of nodes.old root most)) }
-    ensures change { (same_time : Bool) → IfOk result (λ done. done.change ≡ sum_of same_time (Add (Gap rank) body ∷ []) (column_of nodes.old root most)) }
+    ensures change { IfOk result (λ done. done.change ≡ sum_of false (Add (Gap rank) body ∷ []) (column_of nodes.old root most)) }
 {
     let alloc = nodes.allocator();
     let most = most.max(size_of(nodes, root) + 1);
@@ -139,7 +139,7 @@ fn placed(
     requires room { HasRoom (column_of nodes.old root most) place }
     ensures sound { IfOk result (λ done. IsSound nodes.new done.root done.alive done.most false) }
     ensures column { IfOk result (λ done. column_of nodes.new done.root done.most ≡ add place body (column_of nodes.old root most)) }
-    ensures change { (same_time : Bool) → IfOk result (λ done. done.change ≡ sum_of same_time (Add place body ∷ []) (column_of nodes.old root most)) }
+    ensures change { IfOk result (λ done. done.change ≡ sum_of false (Add place body ∷ []) (column_of nodes.old root most)) }
 {
     match place {
         Place::Found(rank) => {
@@ -168,7 +168,7 @@ fn inserted(
     requires room { HasRoom (column_of nodes.old root most) place }
     ensures sound { IfOk result (λ done. IsSound nodes.new done.root done.alive done.most false) }
     ensures column { IfOk result (λ done. column_of nodes.new done.root done.most ≡ add place body (column_of nodes.old root most)) }
-    ensures change { (same_time : Bool) → IfOk result (λ done. done.change ≡ sum_of same_time (Add place body ∷ []) (column_of nodes.old root most)) }
+    ensures change { IfOk result (λ done. done.change ≡ sum_of false (Add place body ∷ []) (column_of nodes.old root most)) }
 {
     let done = placed(nodes, root, alive, most, place, body)?;
     let root = compacted(nodes, done.root)?;

@@ -33,7 +33,7 @@ fn laid(nodes: &mut Arena, root: Option<u32>, alive: u32, most: u32) -> Result<D
     requires { IsSound nodes.old root alive most false }
     ensures sound { IfOk result (λ done. IsSound nodes.new done.root done.alive done.most false) }
     ensures column { IfOk result (λ done. column_of nodes.new done.root done.most ≡ lay (column_of nodes.old root most)) }
-    ensures change { (same_time : Bool) → IfOk result (λ done. done.change ≡ sum_of same_time (Lay ∷ []) (column_of nodes.old root most)) }
+    ensures change { IfOk result (λ done. done.change ≡ sum_of false (Lay ∷ []) (column_of nodes.old root most)) }
 {
     let alloc = nodes.allocator();
     let before = all_codes(nodes, root)?;

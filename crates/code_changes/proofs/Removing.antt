@@ -1,5 +1,5 @@
 -- One row fewer in both modes: where the item goes alone, and where the modes do the same.
-use Rattle.std.proofs.Common.{◌≡◌, ℕ, suc, zero, ◌<◌, ◌≤◌, Bool, true, false, not, ◌&&◌, ltb, List, [], ◌∷◌, length, map, remove, get_or, slice_get, Option, Some, refl, ap, ap₂, ◌∙◌, sym, inl, inr, arith, lt-ltb}
+use Rattle.std.proofs.Common.{◌≡◌, ℕ, suc, zero, ◌<◌, ◌≤◌, Bool, true, false, not, ◌&&◌, ltb, List, [], ◌∷◌, length, map, remove, get_or, slice_get, Option, Some, refl, ap, ap₂, ◌∙◌, sym, subst, inl, inr, arith, lt-ltb}
 use Rattle.std.specs.List.{range_with_len}
 use Rattle.std.proofs.lemmas.Bool.{cases_lt, cases_Bool}
 use Rattle.std.proofs.lemmas.List.Edits.{length-remove}
@@ -22,6 +22,8 @@ use Rattle.code_changes.specs.RemovalLaws.{TakesItem, IsOrdinary}
 use Rattle.code_changes.proofs.ItemCodes.{length-codes_of, get_or-codes_of}
 use Rattle.code_changes.proofs.Counts.{counts, counts_of-items, counts-less, counts-tagged, is_sparse-counts, bodies-less}
 use Rattle.code_changes.proofs.Staying.{bodies-ranks}
+use Rattle.code_changes.proofs.Rows.{IsIncreasing-with}
+use Rattle.tree_model.specs.Places.{IsIncreasing}
 use Rattle.code_changes.proofs.Sparse.{sum-live}
 use Rattle.code_changes.proofs.Leading.{same_sum}
 use Rattle.code_changes.proofs.Shifted.{removal_moves, remove-changed}
@@ -234,6 +236,10 @@ with-all_but [] zero = refl
 with-all_but [] (suc rank) = refl
 with-all_but (x ∷ xs) zero = with-ones xs
 with-all_but (x ∷ xs) (suc rank) = ap (λ (ys : List _). x ∷ ys) (with-all_but xs rank)
+
+-- a list without the element of a rank still increases
+pub rises-without : (xs : List ℕ) (rank : ℕ) → IsIncreasing xs → IsIncreasing (remove xs rank)
+rises-without xs rank up = subst IsIncreasing (with-all_but xs rank) (IsIncreasing-with (all_but (length xs) rank) xs up)
 
 without-all_but : {A : Type 0} (xs : List A) (rank : ℕ) (d : A) → rank < length xs → without_rows (all_but (length xs) rank) xs ≡ get_or xs rank d ∷ []
 unfolding all_but without_rows

@@ -89,15 +89,15 @@ size-remove_tree t rank h =
     let fewer = ap length (inorder-remove_tree t rank) in
     omega (arith, length-inorder (remove_tree t rank), length-remove (inorder t) rank (omega arith))
 
-moved-left : {A : Type 0} (way : List Side) (l : Tree A) (x : A) (r : Tree A) (rank : ℕ) → rank < size l → removal_moved way (node l x r) rank ≡ removal_moved (way ++ Left ∷ []) l rank
+pub moved-left : {A : Type 0} (way : List Side) (l : Tree A) (x : A) (r : Tree A) (rank : ℕ) → rank < size l → removal_moved way (node l x r) rank ≡ removal_moved (way ++ Left ∷ []) l rank
 unfolding removal_moved by_side number
 moved-left way l x r rank h = rw (turn_at-left (size l) (Found rank) (omega arith)) refl
 
-moved-here : {A : Type 0} (way : List Side) (l : Tree A) (x : A) (r : Tree A) (rank : ℕ) → rank ≡ size l → removal_moved way (node l x r) rank ≡ joined_moved way l r
+pub moved-here : {A : Type 0} (way : List Side) (l : Tree A) (x : A) (r : Tree A) (rank : ℕ) → rank ≡ size l → removal_moved way (node l x r) rank ≡ joined_moved way l r
 unfolding removal_moved by_side number
 moved-here way l x r rank h = rw (turn_at-here (size l) (Found rank) (omega arith)) refl
 
-moved-right : {A : Type 0} (way : List Side) (l : Tree A) (x : A) (r : Tree A) (rank : ℕ) → size l < rank → removal_moved way (node l x r) rank ≡ removal_moved (way ++ Right ∷ []) r (rank - suc (size l))
+pub moved-right : {A : Type 0} (way : List Side) (l : Tree A) (x : A) (r : Tree A) (rank : ℕ) → size l < rank → removal_moved way (node l x r) rank ≡ removal_moved (way ++ Right ∷ []) r (rank - suc (size l))
 unfolding removal_moved by_side number
 moved-right way l x r rank h = rw (turn_at-right (size l) (Found rank) (omega arith)) refl
 

@@ -17,3 +17,6 @@ pub mod Putting
 pub mod Ancestors
 pub mod Splitting
 pub mod InsertionSteps
+pub mod MovedCodes
+pub mod Tidying
+pub mod EitherMode

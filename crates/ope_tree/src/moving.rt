@@ -95,10 +95,10 @@ fn joined_moved(
     requires short_right { path.len + 1 + height (tree_of nodes.now right) ≤ 63 }
     ensures { IfOk result (λ moved. moved.items ≡ joined_moved (way path) (tree_of nodes.now left) (tree_of nodes.now right)) }
 {
-    if left.is_none() {
+    let Some(_) = left else {
         let moved = part_moved(nodes, right, child(path, Side::Right), path)?;
         return Ok(moved);
-    }
+    };
     let Some(at) = right else {
         let moved = part_moved(nodes, left, child(path, Side::Left), path)?;
         return Ok(moved);

@@ -59,9 +59,9 @@ fn joined(
     requires right { IsLink nodes.old right }
     ensures { IfOk result (λ link. IsBuilt nodes.old nodes.new link (joined (tree_of nodes.old left) (tree_of nodes.old right))) }
 {
-    if left.is_none() {
+    let Some(_) = left else {
         return Ok(right);
-    }
+    };
     let Some(at) = right else {
         return Ok(left);
     };

@@ -10,7 +10,6 @@ pub mod Stopping
 pub mod CodeLists
 pub mod WalkedPlaces
 pub mod LinkCases
-pub mod RankedCodes
 pub mod Laid
 pub mod Spent
 pub mod Walking
@@ -18,3 +17,6 @@ pub mod Putting
 pub mod Ancestors
 pub mod Splitting
 pub mod InsertionSteps
+pub mod MovedCodes
+pub mod Tidying
+pub mod EitherMode

@@ -50,7 +50,7 @@ new_above v (x ∷ xs) (y ∷ ys) h =
       | inr other ↦ subst P (sym (differing-other x y xs ys other)) (h.0, new_above v xs ys h.1)
     ]
 
-olds_rise : (xs ys : List ℕ) → IsIncreasing xs → IsIncreasing (map (λ r. r.old) (differing xs ys))
+pub olds_rise : (xs ys : List ℕ) → IsIncreasing xs → IsIncreasing (map (λ r. r.old) (differing xs ys))
 unfolding IsIncreasing differing
 olds_rise [] ys up = tt
 olds_rise (x ∷ xs) [] up = tt
@@ -61,7 +61,7 @@ olds_rise (x ∷ xs) (y ∷ ys) up =
       | inr other ↦ subst P (sym (differing-other x y xs ys other)) (old_above x xs ys up.0, olds_rise xs ys up.1)
     ]
 
-news_rise : (xs ys : List ℕ) → IsIncreasing ys → IsIncreasing (map (λ r. r.new) (differing xs ys))
+pub news_rise : (xs ys : List ℕ) → IsIncreasing ys → IsIncreasing (map (λ r. r.new) (differing xs ys))
 unfolding IsIncreasing differing
 news_rise [] ys up = tt
 news_rise (x ∷ xs) [] up = tt

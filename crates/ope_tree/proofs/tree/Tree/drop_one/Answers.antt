@@ -1,9 +1,25 @@
-use Rattle.std.proofs.Common.{false}
+use Rattle.std.proofs.Common.{true, false, ◌∙◌, sym, subst}
+use Rattle.mope_base.specs.Modes.{is_same_time}
+use Rattle.tree_model.specs.ColumnLaws.{SuitsMode}
+use Rattle.ope_tree.specs.Seen.{Seen, column_of, seen_of}
 use Rattle.ope_tree.proofs.Sound.{sound_short}
+use Rattle.ope_tree.proofs.EitherMode.{suits_dropped, suits_empty}
 use Rattle.ope_tree.proofs.tree.Tree.drop_one.Goals as goal
 
 pub returns-in-Ok-clause-short : goal.returns-in-Ok-clause-short
 returns-in-Ok-clause-short c = sound_short c.dropped-done.new.nodes c.in-Ok.done.root c.in-Ok.done.alive c.in-Ok.done.most false c.in-Ok.ensures.sound
 
+pub returns-in-Ok-clause-suits : goal.returns-in-Ok-clause-suits
+returns-in-Ok-clause-suits c = λ suits.
+    let t = c.self.inside in
+    let m = is_same_time c.args.mode in
+    suits_dropped m c.args.rank (column_of t.nodes t.root t.most) (column_of c.dropped-done.new.nodes c.in-Ok.done.root c.in-Ok.done.most) c.in-Ok.ensures.column
+    (subst (λ (seen : Seen). SuitsMode m seen.column) (sym c.self.view_is) suits)
+
 pub returns-in-Err-clause-short : goal.returns-in-Err-clause-short
 returns-in-Err-clause-short c = sound_short c.drop.inside.nodes c.drop.inside.root c.drop.inside.alive c.drop.inside.most c.drop.inside.spent c.drop.invariant
+
+pub returns-in-Err-clause-suits : goal.returns-in-Err-clause-suits
+returns-in-Err-clause-suits c = λ _.
+    let gone = c.drop.inside in
+    suits_empty (is_same_time c.args.mode) true (seen_of gone.nodes gone.root gone.most gone.spent) (c.drop.view_is ∙ c.gone.ensures)

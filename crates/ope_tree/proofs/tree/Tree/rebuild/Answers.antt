@@ -1,7 +1,11 @@
-use Rattle.std.proofs.Common.{◌≤◌, false, ◌∙◌, sym, subst}
+use Rattle.std.proofs.Common.{◌≤◌, [], ◌∷◌, true, false, ap, ◌∙◌, sym, subst}
+use Rattle.tree_model.specs.Columns.{Lay}
+use Rattle.tree_model.specs.ColumnLaws.{SuitsMode}
+use Rattle.path_code.specs.Sums.{sum_of}
 use Rattle.tree_model.specs.Trees.{height}
-use Rattle.ope_tree.specs.Seen.{Seen}
+use Rattle.ope_tree.specs.Seen.{Seen, column_of, seen_of}
 use Rattle.ope_tree.proofs.Sound.{sound_short}
+use Rattle.ope_tree.proofs.EitherMode.{lay_sum, suits_laid, suits_empty}
 use Rattle.ope_tree.proofs.Spent.{spent_is_empty}
 use Rattle.ope_tree.proofs.tree.Tree.rebuild.Goals as goal
 
@@ -18,3 +22,21 @@ returns-in-Ok-clause-short c = sound_short c.laid.new.nodes c.in-Ok.done.root c.
 
 pub returns-in-Err-clause-short : goal.returns-in-Err-clause-short
 returns-in-Err-clause-short c = sound_short c.drop.inside.nodes c.drop.inside.root c.drop.inside.alive c.drop.inside.most c.drop.inside.spent c.drop.invariant
+
+pub returns-in-Ok-clause-change : goal.returns-in-Ok-clause-change
+returns-in-Ok-clause-change c = λ same_time.
+    let t = c.self.inside in
+    c.in-Ok.ensures.change
+    ∙ lay_sum same_time (column_of t.nodes t.root t.most)
+    ∙ ap (λ (seen : Seen). sum_of same_time (Lay ∷ []) seen.column) c.self.view_is
+
+pub returns-in-Ok-clause-suits : goal.returns-in-Ok-clause-suits
+returns-in-Ok-clause-suits c = λ same_time suits.
+    let t = c.self.inside in
+    suits_laid same_time (column_of t.nodes t.root t.most) (column_of c.laid.new.nodes c.in-Ok.done.root c.in-Ok.done.most) c.in-Ok.ensures.column
+    (subst (λ (seen : Seen). SuitsMode same_time seen.column) (sym c.self.view_is) suits)
+
+pub returns-in-Err-clause-suits : goal.returns-in-Err-clause-suits
+returns-in-Err-clause-suits c = λ same_time _.
+    let gone = c.drop.inside in
+    suits_empty same_time true (seen_of gone.nodes gone.root gone.most gone.spent) (c.drop.view_is ∙ c.gone.ensures)

@@ -1,0 +1,5 @@
+use Rattle.ope_tree.specs.Nodes.{reach}
+use Rattle.ope_tree.proofs.moving.+first_moved.Given as goal
+
+abbrev pub decreases-first_moved : goal.decreases-first_moved
+decreases-first_moved l = reach l.left

@@ -1,0 +1,5 @@
+use Rattle.ope_tree.specs.Nodes.{reach}
+use Rattle.ope_tree.proofs.moving.+removal_moved.Given as goal
+
+abbrev pub decreases-removal_moved : goal.decreases-removal_moved
+decreases-removal_moved l = reach l.link

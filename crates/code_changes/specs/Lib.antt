@@ -1,3 +1,6 @@
 pub mod Changes
 pub mod Columns
 pub mod Laws
+pub mod Normal
+pub mod Compositions
+pub mod CompositionLaws

@@ -2,4 +2,5 @@
 //! versions stand.
 #![tactic(auto)]
 
+pub mod composition_laws;
 pub mod laws;

@@ -10,3 +10,7 @@ pub mod Staying
 pub mod Gaps
 pub mod Sparse
 pub mod After
+pub mod Orders
+pub mod Becoming
+pub mod Both
+pub mod Told

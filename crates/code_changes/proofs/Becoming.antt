@@ -181,7 +181,7 @@ vanishes_dropped f (x ∷ xs) n among is =
 
 -- ---- what the change makes of a code of the list
 
-new_code-nil : (n : ℕ) → new_code [] n ≡ n
+pub new_code-nil : (n : ℕ) → new_code [] n ≡ n
 unfolding new_code
 new_code-nil n = refl
 

@@ -14,3 +14,5 @@ pub mod Orders
 pub mod Becoming
 pub mod Both
 pub mod Told
+pub mod Following
+pub mod NormalSums

@@ -66,7 +66,7 @@ pairs_told (x ∷ xs) (y ∷ ys) up same news =
 
 -- ---- a change in normal form is what it does
 
-differ-nil : Differ []
+pub differ-nil : Differ []
 unfolding Differ
 differ-nil = tt
 

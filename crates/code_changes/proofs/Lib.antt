@@ -16,3 +16,4 @@ pub mod Both
 pub mod Told
 pub mod Following
 pub mod NormalSums
+pub mod Halving

@@ -15,5 +15,6 @@ pub mod Becoming
 pub mod Both
 pub mod Told
 pub mod Following
+pub mod NormalForms
 pub mod NormalSums
 pub mod Halving

@@ -13,6 +13,7 @@ use Rattle.tree_model.proofs.Risen.{origins-rising}
 use Rattle.tree_model.proofs.Summed.{length-origins, origins-append, apply_all-append}
 use Rattle.path_code.specs.declared.moves.Recode.{Recode}
 use Rattle.path_code.specs.Sums.{unless, item_code, Sum, sum_by_origins, sum_of}
+use Rattle.path_code.specs.SumLaws.{Increase}
 use Rattle.path_code.proofs.Sums.{is_origin-at, sum_of-append}
 use Rattle.path_code.proofs.Increasing.{sums_increase}
 use Rattle.code_changes.specs.Changes.{IsIn, new_code, none_if, applied, images, put_all, list_after, differing, Fits, with_rows, without_rows}
@@ -31,47 +32,15 @@ use Rattle.code_changes.proofs.Origins.{marks}
 use Rattle.code_changes.proofs.Orders.{nowhere, images-some}
 use Rattle.code_changes.proofs.Becoming.{cases_Option, new_code-nil}
 use Rattle.code_changes.proofs.Both.{both_none, both_some, applied-both, both_compose, both_normal}
-use Rattle.code_changes.proofs.Told.{differ-nil, told}
+use Rattle.code_changes.proofs.NormalForms.{taking, taking_normal}
+use Rattle.code_changes.proofs.Told.{told}
 use Rattle.code_changes.proofs.Following.{StandsAt, carried-stands, origin-bounds, applied_at, applied_gone}
-
--- ---- the pairs of two lists that differ
-
-differ-cons : (x y : ℕ) (xs ys : List ℕ) → (x ≡ y → ⊥) → Differ (differing xs ys) → Differ (record { old = x; new = y } ∷ differing xs ys)
-unfolding Differ
-differ-cons x y xs ys other rest = (other, rest)
-
-differing-short : (x : ℕ) (xs : List ℕ) → differing (x ∷ xs) [] ≡ []
-unfolding differing
-differing-short x xs = refl
-
-differing-nil : (ys : List ℕ) → differing [] ys ≡ []
-unfolding differing
-differing-nil ys = refl
-
--- the pairs that differ do
-pub differ-differing : (xs ys : List ℕ) → Differ (differing xs ys)
-differ-differing [] ys = subst Differ (sym (differing-nil ys)) differ-nil
-differ-differing (x ∷ xs) [] = subst Differ (sym (differing-short x xs)) differ-nil
-differ-differing (x ∷ xs) (y ∷ ys) =
-    elim (cases_eq x y) [
-      | inl same ↦ subst Differ (sym (differing-same x y xs ys same)) (differ-differing xs ys)
-      | inr other ↦ subst Differ (sym (differing-other x y xs ys other)) (differ-cons x y xs ys other (differ-differing xs ys))
-    ]
 
 -- ---- sums are in normal form
 
--- a change between two lists that takes some of an increasing one
-apart_between : (before xs after ys : List ℕ) → IsIncreasing xs → (n : ℕ) → IsIn n (change_between before xs after ys).dropped → holds n (olds (change_between before xs after ys).moved) ≡ false
-unfolding change_between olds
-apart_between before xs after ys up n h =
-    elim (cases_Bool (holds n (map (λ pair. pair.old) (differing (with_rows before xs) (with_rows after ys))))) [
-      | inl held ↦ absurd (let e : true ≡ false = sym (IsIn-differing n (with_rows before xs) (with_rows after ys) held) ∙ with-apart n before xs up h in cc)
-      | inr free ↦ free
-    ]
-
-differ_between : (before xs after ys : List ℕ) → Differ (change_between before xs after ys).moved
-unfolding change_between
-differ_between before xs after ys = differ-differing (with_rows before xs) (with_rows after ys)
+between_is : (before xs after ys : List ℕ) → change_between before xs after ys ≡ taking before xs (with_rows after ys) (without_rows after ys)
+unfolding change_between taking
+between_is before xs after ys = refl
 
 sum_is : {B : Type 0} (same_time : Bool) (operations : List (Operation B)) (c : Column B) → sum_of same_time operations c ≡ sum_by_origins c.tree (apply_all same_time operations c).tree (origins same_time operations c)
 unfolding sum_of
@@ -83,13 +52,14 @@ sums_are_normal same_time operations c high_before high_after =
     let t = c.tree in
     let u = (apply_all same_time operations c).tree in
     let from = origins same_time operations c in
-    let is : sum_of same_time operations c ≡ change_between (staying from (size t)) (codes_of t) (marks from) (codes_of u) =
-        sum_is same_time operations c ∙ sum-between t u from (origins-rising same_time operations c) (length-origins same_time operations c) in
-    record {
-      increase = sums_increase same_time operations c high_before high_after;
-      apart = λ n h. ap (λ (s : Sum). holds n (olds s.moved)) is ∙ apart_between (staying from (size t)) (codes_of t) (marks from) (codes_of u) (IsIncreasing-codes_of t high_before) n (ap (λ (s : Sum). holds n s.dropped) (sym is) ∙ h);
-      differ = subst (λ (s : Sum). Differ s.moved) (sym is) (differ_between (staying from (size t)) (codes_of t) (marks from) (codes_of u));
-    }
+    let counts = staying from (size t) in
+    let news = with_rows (marks from) (codes_of u) in
+    let added = without_rows (marks from) (codes_of u) in
+    let is : sum_of same_time operations c ≡ taking counts (codes_of t) news added =
+        sum_is same_time operations c
+        ∙ sum-between t u from (origins-rising same_time operations c) (length-origins same_time operations c)
+        ∙ between_is counts (codes_of t) (marks from) (codes_of u) in
+    subst IsNormal (sym is) (taking_normal counts (codes_of t) news added (IsIncreasing-codes_of t high_before) (subst Increase is (sums_increase same_time operations c high_before high_after)))
 
 -- ---- sums compose
 

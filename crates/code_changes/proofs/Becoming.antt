@@ -1,19 +1,18 @@
 -- The change that a function makes of a list: its pairs and its dropped codes.
-use Rattle.std.proofs.Common.{◌≡◌, ◌≢◌, ◌⊎◌, ℕ, ◌<◌, Bool, true, false, List, [], ◌∷◌, map, Option, Some, None, refl, ap, ap₂, ◌∙◌, sym, subst, inl, inr, arith, eq-eqb, ne_eqb}
+use Rattle.std.proofs.Common.{◌≡◌, ◌≢◌, ◌⊎◌, ℕ, true, false, List, [], ◌∷◌, Option, Some, None, refl, ap, ◌∙◌, sym, subst, inl, inr, eq-eqb, ne_eqb}
 use Rattle.std.proofs.lemmas.Bool.{cases_eq, cases_Bool}
 use Rattle.tree_model.specs.Places.{holds, IsBelowAll, IsIncreasing}
 use Rattle.tree_model.proofs.Ordered.{holds-cons_eq, holds-cons_ne, IsIncreasing-nil}
 use Rattle.path_code.specs.declared.moves.Recode.{Recode}
 use Rattle.path_code.specs.Sums.{unless, Sum}
-use Rattle.path_code.specs.SumLaws.{Increase}
-use Rattle.code_changes.specs.Changes.{IsIn, new_if, new_code, none_if, applied}
+use Rattle.code_changes.specs.Changes.{IsIn, new_code, applied}
 use Rattle.code_changes.specs.Normal.{olds, news, Differ, IsNormal}
 use Rattle.code_changes.specs.Compositions.{pair_if, moved_by, lost_if, dropped_by}
-use Rattle.code_changes.proofs.Lists.{holds-nil, IsIn-cons, lt_of_IsIn, same_members}
+use Rattle.code_changes.proofs.Lists.{IsIn-cons, lt_of_IsIn}
 use Rattle.code_changes.proofs.Rows.{IsIn-rest}
 use Rattle.code_changes.proofs.Pairs.{new_code-here, new_code-past}
 use Rattle.code_changes.proofs.After.{applied-dropped, applied-kept}
-use Rattle.code_changes.proofs.Orders.{nowhere, first_in, IsBelowAll-members, same_bool, IsIncreasing-rest, IsBelowAll-first, IsIncreasing-cons, InOrder}
+use Rattle.code_changes.proofs.Orders.{nowhere, first_in, IsBelowAll-members, IsIncreasing-rest, IsBelowAll-first, IsIncreasing-cons, InOrder}
 
 pub record IsSome (o : Option ℕ) : Type 0 where
   pub new : ℕ
@@ -55,9 +54,9 @@ moved_cases P f x xs rest more =
     elim (cases_Option (f x)) [
       | inl none ↦ subst P (sym (moved_by-none f x xs none)) rest
       | inr some ↦ elim (cases_eq x some.new) [
-          | inl same ↦ subst P (sym (moved_by-same f x some.new xs some.is same)) rest
-          | inr other ↦ subst P (sym (moved_by-other f x some.new xs some.is other)) (more some.new some.is other)
-        ]
+        | inl same ↦ subst P (sym (moved_by-same f x some.new xs some.is same)) rest
+        | inr other ↦ subst P (sym (moved_by-other f x some.new xs some.is other)) (more some.new some.is other)
+      ]
     ]
 
 moved_by-nil : (f : ℕ → Option ℕ) → moved_by f [] ≡ []
@@ -212,11 +211,11 @@ new_code-by f (x ∷ xs) n new among is =
     elim (cases_eq n new) [
       | inl same ↦ new_code-free (moved_by f (x ∷ xs)) n (free_of_same f (x ∷ xs) n (is ∙ ap (λ (m : ℕ). Some m) (sym same))) ∙ same
       | inr other ↦ elim (cases_eq x n) [
-          | inl here ↦
-              ap (λ (m : List Recode). new_code m n) (moved_by-other f x new xs (ap f here ∙ is) (λ e. other (sym here ∙ e)))
-              ∙ new_code-here (record { old = x; new = new }) (moved_by f xs) n here
-          | inr past ↦ new_code-skip f x xs n past ∙ new_code-by f xs n new (IsIn-rest n x xs past among) is
-        ]
+        | inl here ↦
+            ap (λ (m : List Recode). new_code m n) (moved_by-other f x new xs (ap f here ∙ is) (λ e. other (sym here ∙ e)))
+            ∙ new_code-here (record { old = x; new = new }) (moved_by f xs) n here
+        | inr past ↦ new_code-skip f x xs n past ∙ new_code-by f xs n new (IsIn-rest n x xs past among) is
+      ]
     ]
 
 unfoldable pub by : (ℕ → Option ℕ) → List ℕ → List ℕ → Sum

@@ -1,9 +1,9 @@
 -- Two changes that fit a list in turn, as one change of it.
-use Rattle.std.proofs.Common.{◌≡◌, ◌⊎◌, ℕ, ◌<◌, Bool, true, false, ◌||◌, List, [], ◌∷◌, Option, Some, None, refl, ap, ap₂, ◌∙◌, sym, subst, inl, inr, arith}
+use Rattle.std.proofs.Common.{◌≡◌, ◌⊎◌, ℕ, Bool, true, false, ◌||◌, List, Some, None, refl, ap, ◌∙◌, sym, subst, inl, inr}
 use Rattle.std.proofs.lemmas.Bool.{cases_Bool}
 use Rattle.tree_model.specs.Places.{holds, IsIncreasing}
 use Rattle.path_code.specs.Sums.{Sum}
-use Rattle.code_changes.specs.Changes.{IsIn, applied, images, put_all, list_after, Fits}
+use Rattle.code_changes.specs.Changes.{IsIn, applied, images, list_after, Fits}
 use Rattle.code_changes.specs.Laws.{ComesFrom}
 use Rattle.code_changes.specs.Normal.{olds, IsNormal}
 use Rattle.code_changes.specs.Compositions.{applied_next, applied_both, moved_by, dropped_by, both_on, FitsInTurn}
@@ -11,7 +11,7 @@ use Rattle.code_changes.specs.CompositionLaws.{Composes}
 use Rattle.code_changes.proofs.Lists.{same_members}
 use Rattle.code_changes.proofs.After.{after_gathers, image-comes, image-of, IsIncreasing-put_all, holds-put_all}
 use Rattle.code_changes.proofs.Orders.{same_bool, InOrder, order_kept, in_order, told_apart}
-use Rattle.code_changes.proofs.Becoming.{IsSome, cases_Option, by, old_changes, dropped_vanishes, applied-by, IsNormal-by}
+use Rattle.code_changes.proofs.Becoming.{cases_Option, by, old_changes, dropped_vanishes, applied-by, IsNormal-by}
 
 -- ---- what becomes of codes in turn
 
@@ -134,7 +134,7 @@ Fits-both s next codes fit =
       dropped = λ n h. (dropped_vanishes becomes codes n (ap (holds n) (sym (both_dropped s next codes)) ∙ h)).among;
       moved = λ n h. (old_changes becomes codes n (ap (λ moved. holds n (olds moved)) (sym (both_moved s next codes)) ∙ h)).among;
       in_order = in_order both codes fit.earlier.rises (λ a b new_a new_b in_a in_b lt is_a is_b.
-      both_order s next codes fit a b new_a new_b in_a in_b lt (sym (applied-both s next codes a in_a) ∙ is_a) (sym (applied-both s next codes b in_b) ∙ is_b));
+          both_order s next codes fit a b new_a new_b in_a in_b lt (sym (applied-both s next codes a in_a) ∙ is_a) (sym (applied-both s next codes b in_b) ∙ is_b));
       apart = λ n h. elim (cases_Bool (holds n (images both codes))) [
         | inl held ↦ added_apart s next codes n fit (ap (holds n) (sym (both_added s next codes)) ∙ h) (image_both s next codes n held)
         | inr free ↦ free
@@ -150,11 +150,11 @@ to_turns s next codes n h =
     let between = list_after s codes in
     elim (after_cases both codes n h) [
       | inl new ↦ elim (after_cases next s.added n (ap (holds n) (sym (both_added s next codes)) ∙ new)) [
-          | inl later ↦ after_added next between n later
-          | inr earlier ↦
-              let from = image-comes next s.added n earlier in
-              after_image next between n (image-of next between from.old n (after_added s codes from.old from.among) from.becomes)
-        ]
+        | inl later ↦ after_added next between n later
+        | inr earlier ↦
+            let from = image-comes next s.added n earlier in
+            after_image next between n (image-of next between from.old n (after_added s codes from.old from.among) from.becomes)
+      ]
       | inr image ↦
           let from = image_both s next codes n image in
           after_image next between n (image-of next between from.old n (after_image s codes from.old from.among) from.becomes)

@@ -1,5 +1,5 @@
 -- Under a list of operations codes follow their items.
-use Rattle.std.proofs.Common.{◌≡◌, ◌≢◌, ℕ, suc, zero, ◌+◌, ◌<◌, ◌≤◌, Bool, true, false, eqb, List, [], ◌∷◌, length, map, get_or, Option, Some, None, refl, ap, ◌∙◌, sym, subst, inl, inr, arith, eq-eqb, ne_eqb}
+use Rattle.std.proofs.Common.{◌≡◌, ◌≢◌, ℕ, suc, zero, ◌+◌, ◌<◌, ◌≤◌, Bool, true, false, eqb, List, [], ◌∷◌, length, get_or, Option, Some, None, refl, ap, ◌∙◌, sym, subst, inl, inr, arith, eq-eqb, ne_eqb}
 use Rattle.std.specs.List.{range_with_len}
 use Rattle.std.proofs.lemmas.Bool.{cases_order, cases_eq, cases_Bool}
 use Rattle.tree_model.specs.Trees.{Tree, size, height}
@@ -11,7 +11,7 @@ use Rattle.tree_model.specs.Carried.{is_origin, is_rank, here_or_next, carried}
 use Rattle.tree_model.proofs.Ordered.{holds-cons_eq, holds-cons_ne}
 use Rattle.tree_model.proofs.Risen.{origins-rising}
 use Rattle.path_code.specs.declared.moves.Recode.{Recode}
-use Rattle.path_code.specs.Sums.{item_code, unless, moved_codes, dropped_codes, Sum, sum_by_origins, sum_of}
+use Rattle.path_code.specs.Sums.{item_code, unless, moved_codes, dropped_codes, sum_by_origins, sum_of}
 use Rattle.path_code.proofs.Increasing.{item_code-lt}
 use Rattle.path_code.proofs.Sums.{is_origin-at}
 use Rattle.code_changes.specs.Changes.{IsIn, new_code, applied}
@@ -235,8 +235,8 @@ pub follow : {A B : Type 0} (t : Tree A) (u : Tree B) (from : List (Option ℕ))
 follow t u from rank high up within =
     record {
       moves = λ held. let at = carried-stands from rank held in
-      let first : 0 + carried from rank ≡ carried from rank = omega arith in
-      ap (λ (m : List Recode). new_code m (item_code t rank)) (sum-moved t u from) ∙ moved-at t u rank (carried from rank) 0 0 from high up at.within at.is ∙ ap (item_code u) first;
+          let first : 0 + carried from rank ≡ carried from rank = omega arith in
+          ap (λ (m : List Recode). new_code m (item_code t rank)) (sum-moved t u from) ∙ moved-at t u rank (carried from rank) 0 0 from high up at.within at.is ∙ ap (item_code u) first;
       stays = λ held. ap (holds (item_code t rank)) (sum-dropped t u from) ∙ stays_out t from rank 0 (size t) high held within (omega arith);
       goes = λ free. ap (holds (item_code t rank)) (sum-dropped t u from) ∙ gone_in t from rank 0 (size t) free (omega arith) (omega arith);
     }

@@ -1,8 +1,8 @@
 -- What a search by halving finds in an increasing list of codes, and in pairs of codes.
-use Rattle.std.proofs.Common.{◌≡◌, ℕ, suc, zero, ◌+◌, ◌<◌, ◌≤◌, Bool, true, false, List, [], ◌∷◌, length, map, get_or, Result, Ok, Err, refl, ap, ◌∙◌, sym, subst, inl, inr, arith, nat_cmp, MatchResult}
+use Rattle.std.proofs.Common.{◌≡◌, ℕ, suc, zero, ◌<◌, ◌≤◌, true, false, List, [], ◌∷◌, length, get_or, Result, Ok, Err, refl, ap, ◌∙◌, sym, subst, inl, inr, arith, nat_cmp, MatchResult}
 use Rattle.std.specs.Ordering.{ordering_index}
 use Rattle.std.specs.List.Sorted.{IsBinarySearchResult}
-use Rattle.std.proofs.lemmas.Bool.{cases_order, cases_lt, cases_Bool}
+use Rattle.std.proofs.lemmas.Bool.{cases_lt, cases_Bool}
 use Rattle.std.proofs.lemmas.List.{length-map, get_or_default}
 use Rattle.std.proofs.lemmas.List.Sorted.{searched}
 use Rattle.std.proofs.Math.ListN.{get_or-map}
@@ -72,10 +72,9 @@ by_olds moved x (Err i) found = λ rise.
     let low = ap (λ (n : ℕ). ordering_index (nat_cmp n x)) (old_at moved a d) in
     let high = ap (λ (n : ℕ). ordering_index (nat_cmp n x)) (old_at moved b d) in
     let order = rise a b d.old le (omega (arith, lt, length-olds moved)) in
-    omega (arith, low, high, order)) in
-    (
+    omega (arith, low, high, order)) in (
       (λ k d le lt. ap (λ (n : ℕ). nat_cmp n x) (old_at moved k (pair_of d)) ∙ parted.0 k (pair_of d) le lt),
-      (λ k d le lt. ap (λ (n : ℕ). nat_cmp n x) (old_at moved k (pair_of d)) ∙ parted.1 k (pair_of d) le (omega (arith, lt, length-olds moved)))
+      (λ k d le lt. ap (λ (n : ℕ). nat_cmp n x) (old_at moved k (pair_of d)) ∙ parted.1 k (pair_of d) le (omega (arith, lt, length-olds moved))),
     )
 
 pub new_code-at : (moved : List Recode) (x i : ℕ) (d : Recode) → IsIncreasing (olds moved) → i < length moved → (get_or moved i d).old ≡ x → (get_or moved i d).new ≡ new_code moved x

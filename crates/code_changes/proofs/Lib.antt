@@ -18,3 +18,4 @@ pub mod Following
 pub mod NormalForms
 pub mod NormalSums
 pub mod Halving
+pub mod Neutral

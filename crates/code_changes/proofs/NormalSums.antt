@@ -1,40 +1,33 @@
--- Sums of operations are in normal form, and compose; the change that leaves all codes.
-use Rattle.std.proofs.Common.{◌≡◌, ℕ, zero, suc, ◌+◌, ◌<◌, ◌≤◌, Bool, true, false, List, [], ◌∷◌, ◌++◌, length, map, get_or, Option, Some, None, refl, ap, ap₂, ◌∙◌, sym, subst, inl, inr, arith}
+-- Sums of operations are in normal form, and compose.
+use Rattle.std.proofs.Common.{◌≡◌, ℕ, zero, suc, ◌+◌, ◌<◌, ◌≤◌, Bool, true, false, List, ◌++◌, length, map, get_or, Option, Some, None, refl, ap, ◌∙◌, sym, subst, inl, inr, arith}
 use Rattle.std.specs.List.{range_with_len}
 use Rattle.std.proofs.lemmas.Bool.{cases_eq, cases_Bool}
 use Rattle.std.proofs.lemmas.List.{get_or-map, length-map}
 use Rattle.tree_model.specs.Trees.{Tree, size, height}
-use Rattle.tree_model.specs.Places.{holds, IsIncreasing}
 use Rattle.tree_model.specs.Columns.{Column, Operation, apply_all}
 use Rattle.tree_model.specs.Sums.{origins, through, composed, IsRising}
 use Rattle.tree_model.specs.Carried.{is_origin, carried}
-use Rattle.tree_model.proofs.Ordered.{IsIncreasing-nil}
 use Rattle.tree_model.proofs.Risen.{origins-rising}
 use Rattle.tree_model.proofs.Summed.{length-origins, origins-append, apply_all-append}
-use Rattle.path_code.specs.declared.moves.Recode.{Recode}
-use Rattle.path_code.specs.Sums.{unless, item_code, Sum, sum_by_origins, sum_of}
+use Rattle.path_code.specs.Sums.{item_code, Sum, sum_by_origins, sum_of}
 use Rattle.path_code.specs.SumLaws.{Increase}
 use Rattle.path_code.proofs.Sums.{is_origin-at, sum_of-append}
 use Rattle.path_code.proofs.Increasing.{sums_increase}
-use Rattle.code_changes.specs.Changes.{IsIn, new_code, none_if, applied, images, put_all, list_after, differing, Fits, with_rows, without_rows}
+use Rattle.code_changes.specs.Changes.{IsIn, applied, list_after, Fits, with_rows, without_rows}
 use Rattle.code_changes.specs.Columns.{codes_of}
-use Rattle.code_changes.specs.Normal.{olds, Differ, IsNormal}
+use Rattle.code_changes.specs.Normal.{IsNormal}
 use Rattle.code_changes.specs.Compositions.{applied_both, both_on, FitsInTurn}
-use Rattle.code_changes.specs.CompositionLaws.{unchanged, IsNeutral}
-use Rattle.code_changes.proofs.Lists.{holds-nil, IsIn-cons}
-use Rattle.code_changes.proofs.Rows.{IsIn-rest, with-apart}
-use Rattle.code_changes.proofs.Pairs.{differing-same, differing-other, IsIn-differing}
-use Rattle.code_changes.proofs.Images.{change_between, images-kept}
-use Rattle.code_changes.proofs.After.{after_gathers}
+use Rattle.code_changes.proofs.Rows.{IsIn-rest}
+use Rattle.code_changes.proofs.Images.{change_between}
 use Rattle.code_changes.proofs.ItemCodes.{IsIncreasing-codes_of}
 use Rattle.code_changes.proofs.Leading.{staying, sum-between, operations_fit}
 use Rattle.code_changes.proofs.Origins.{marks}
-use Rattle.code_changes.proofs.Orders.{nowhere, images-some}
-use Rattle.code_changes.proofs.Becoming.{cases_Option, new_code-nil}
+use Rattle.code_changes.proofs.Orders.{nowhere}
+use Rattle.code_changes.proofs.Becoming.{cases_Option}
 use Rattle.code_changes.proofs.Both.{both_none, both_some, applied-both, both_compose, both_normal}
 use Rattle.code_changes.proofs.NormalForms.{taking, taking_normal}
 use Rattle.code_changes.proofs.Told.{told}
-use Rattle.code_changes.proofs.Following.{StandsAt, carried-stands, origin-bounds, applied_at, applied_gone}
+use Rattle.code_changes.proofs.Following.{carried-stands, origin-bounds, applied_at, applied_gone}
 
 -- ---- sums are in normal form
 
@@ -56,9 +49,9 @@ sums_are_normal same_time operations c high_before high_after =
     let news = with_rows (marks from) (codes_of u) in
     let added = without_rows (marks from) (codes_of u) in
     let is : sum_of same_time operations c ≡ taking counts (codes_of t) news added =
-        sum_is same_time operations c
-        ∙ sum-between t u from (origins-rising same_time operations c) (length-origins same_time operations c)
-        ∙ between_is counts (codes_of t) (marks from) (codes_of u) in
+    sum_is same_time operations c
+    ∙ sum-between t u from (origins-rising same_time operations c) (length-origins same_time operations c)
+    ∙ between_is counts (codes_of t) (marks from) (codes_of u) in
     subst IsNormal (sym is) (taking_normal counts (codes_of t) news added (IsIncreasing-codes_of t high_before) (subst Increase is (sums_increase same_time operations c high_before high_after)))
 
 -- ---- sums compose
@@ -143,7 +136,7 @@ stays_both earlier later k first second =
     let next = carried-stands later (carried earlier k) second in
     let place = carried later (carried earlier k) in
     let is : get_or (composed earlier later) place None ≡ Some k =
-        composed-at earlier later place next.within ∙ ap (through earlier) next.is ∙ through_some earlier (carried earlier k) ∙ at.is in
+    composed-at earlier later place next.within ∙ ap (through earlier) next.is ∙ through_some earlier (carried earlier k) ∙ at.is in
     is_origin-at (composed earlier later) place k (omega (arith, next.within, length-composed earlier later)) is
 
 agree_gone : {A B C : Type 0} (t : Tree A) (u : Tree B) (w : Tree C) (earlier later : List (Option ℕ)) (k : ℕ) → AreSteps A B C t u w earlier later → k < size t → is_origin k (composed earlier later) ≡ false → applied_both (sum_by_origins t u earlier) (sum_by_origins u w later) (item_code t k) ≡ applied (sum_by_origins t w (composed earlier later)) (item_code t k)
@@ -219,72 +212,3 @@ sums_compose {B} same_time earlier later c high_c high_mid high_after =
     both.fits all.fits
     (λ n h. applied-both s next codes n h ∙ sums_agree same_time earlier later c high_c high_mid n h)
     (both.gives ∙ ap (list_after next) first.gives ∙ second.gives ∙ ap (λ (d : Column B). codes_of d.tree) (sym whole) ∙ sym all.gives)
-
--- ---- the change that leaves all codes
-
-applied-unchanged : (n : ℕ) → applied unchanged n ≡ Some n
-unfolding applied none_if unchanged holds new_code
-applied-unchanged n = refl
-
-images-none : images unchanged [] ≡ []
-unfolding images
-images-none = refl
-
-images-unchanged : (codes : List ℕ) → images unchanged codes ≡ codes
-images-unchanged [] = images-none
-images-unchanged (x ∷ codes) = images-some unchanged x x codes (applied-unchanged x) ∙ ap (λ (xs : List ℕ). x ∷ xs) (images-unchanged codes)
-
-after-alone : (codes : List ℕ) → list_after unchanged codes ≡ images unchanged codes
-unfolding list_after unchanged put_all
-after-alone codes = refl
-
-after-unchanged : (codes : List ℕ) → list_after unchanged codes ≡ codes
-after-unchanged codes = after-alone codes ∙ images-unchanged codes
-
-no_dropped : (n : ℕ) → IsIn n unchanged.dropped → IsIn n []
-unfolding unchanged
-no_dropped n h = h
-
-no_added : (n : ℕ) → IsIn n unchanged.added → IsIn n []
-unfolding unchanged
-no_added n h = h
-
-no_moved : (n : ℕ) → IsIn n (map (λ (pair : Recode). pair.old) unchanged.moved) → IsIn n []
-unfolding unchanged
-no_moved n h = h
-
-pub unchanged_fits : (codes : List ℕ) → IsIncreasing codes → Fits unchanged codes
-unchanged_fits codes up =
-    record {
-      rises = up;
-      dropped = λ n h. nowhere n (no_dropped n h);
-      moved = λ n h. nowhere n (no_moved n h);
-      in_order = subst IsIncreasing (sym (images-unchanged codes)) up;
-      apart = λ n h. nowhere n (no_added n h);
-    }
-
-pub unchanged_normal : IsNormal unchanged
-unfolding unchanged IsIncreasing Differ olds
-unchanged_normal = record { increase = record { old = tt; new = tt; dropped = tt; added = tt }; apart = λ n h. nowhere n h; differ = tt }
-
-neutral_before : (s : Sum) (codes : List ℕ) → IsNormal s → Fits s codes → both_on unchanged s codes ≡ s
-neutral_before s codes normal fits =
-    let fit : FitsInTurn unchanged s codes = record { earlier = unchanged_fits codes fits.rises; later = subst (λ (xs : List ℕ). Fits s xs) (sym (after-unchanged codes)) fits } in
-    let both = both_compose unchanged s codes fit in
-    told (both_on unchanged s codes) s codes (both_normal unchanged s codes unchanged_normal fit) normal both.fits fits
-    (λ n h. applied-both unchanged s codes n h ∙ both_some unchanged s n n (applied-unchanged n))
-    (both.gives ∙ ap (list_after s) (after-unchanged codes))
-
-neutral_after : (s : Sum) (codes : List ℕ) → IsNormal s → Fits s codes → both_on s unchanged codes ≡ s
-neutral_after s codes normal fits =
-    let fit : FitsInTurn s unchanged codes = record { earlier = fits; later = unchanged_fits (list_after s codes) (after_gathers s codes fits).rises } in
-    let both = both_compose s unchanged codes fit in
-    told (both_on s unchanged codes) s codes (both_normal s unchanged codes normal fit) normal both.fits fits
-    (λ n h. applied-both s unchanged codes n h ∙ elim (cases_Option (applied s n)) [
-      | inl none ↦ both_none s unchanged n none ∙ sym none
-      | inr some ↦ both_some s unchanged n some.new some.is ∙ applied-unchanged some.new ∙ sym some.is
-    ])
-    (both.gives ∙ after-unchanged (list_after s codes))
-
-pub neutral : (s : Sum) (codes : List ℕ) → IsNormal s → Fits s codes → IsNeutral s codes
-neutral s codes normal fits = record { before = neutral_before s codes normal fits; after = neutral_after s codes normal fits }

@@ -1,8 +1,8 @@
 -- A change leaves a list in order exactly where it leaves each two of its codes in order.
-use Rattle.std.proofs.Common.{◌≡◌, ◌≢◌, ℕ, ◌<◌, Bool, true, false, ◌||◌, List, [], ◌∷◌, Option, Some, None, refl, ap, ◌∙◌, sym, subst, inl, inr, arith}
+use Rattle.std.proofs.Common.{◌≡◌, ℕ, ◌<◌, Bool, true, false, List, [], ◌∷◌, Option, Some, refl, ap, ◌∙◌, sym, subst, inl, inr, arith}
 use Rattle.std.proofs.lemmas.Bool.{cases_order, cases_eq, cases_Bool}
 use Rattle.tree_model.specs.Places.{holds, IsBelowAll, IsIncreasing}
-use Rattle.tree_model.proofs.Ordered.{holds-cons_eq, holds-cons_ne, IsIncreasing-nil}
+use Rattle.tree_model.proofs.Ordered.{holds-cons_eq, IsIncreasing-nil}
 use Rattle.path_code.specs.Sums.{Sum}
 use Rattle.code_changes.specs.Changes.{IsIn, new_code, applied, with_some, images}
 use Rattle.code_changes.proofs.Lists.{holds-nil, IsIn-cons, lt_of_IsIn}

@@ -1,8 +1,7 @@
 -- A change in normal form is told by what becomes of a list that it fits, and by the list after it.
-use Rattle.std.proofs.Common.{◌≡◌, ◌≢◌, ℕ, Bool, true, false, List, [], ◌∷◌, Option, Some, None, refl, ap, ap₂, ◌∙◌, sym, subst, inl, inr, arith}
+use Rattle.std.proofs.Common.{◌≡◌, ◌≢◌, ℕ, true, false, List, [], ◌∷◌, Option, Some, None, refl, ap, ap₂, ◌∙◌, sym, subst, inl, inr, arith}
 use Rattle.std.proofs.lemmas.Bool.{cases_eq, cases_Bool}
 use Rattle.tree_model.specs.Places.{holds, IsIncreasing}
-use Rattle.tree_model.proofs.Ordered.{holds-cons_eq, holds-cons_ne}
 use Rattle.path_code.specs.declared.moves.Recode.{Recode}
 use Rattle.path_code.specs.Sums.{Sum}
 use Rattle.code_changes.specs.Changes.{IsIn, new_code, applied, with_some, images, list_after, Fits}
@@ -14,7 +13,7 @@ use Rattle.code_changes.proofs.Pairs.{new_code-here, new_code-past}
 use Rattle.code_changes.proofs.Leading.{same_sum}
 use Rattle.code_changes.proofs.After.{applied-dropped, applied-kept}
 use Rattle.code_changes.proofs.Orders.{nowhere, first_in, same_bool, IsIncreasing-rest, IsBelowAll-first}
-use Rattle.code_changes.proofs.Becoming.{cases_Option, olds-nil, olds-cons, new_code-free, old_changes, changes_old, dropped_vanishes, vanishes_dropped, IsIncreasing-dropped_by, olds-up, new_code-by}
+use Rattle.code_changes.proofs.Becoming.{olds-nil, olds-cons, new_code-free, old_changes, changes_old, dropped_vanishes, vanishes_dropped, IsIncreasing-dropped_by, olds-up, new_code-by}
 use Rattle.code_changes.proofs.Both.{after_added, after_cases}
 
 -- ---- functions that agree on a list

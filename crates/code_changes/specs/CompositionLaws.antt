@@ -5,7 +5,7 @@ use Rattle.tree_model.specs.Trees.{Tree, size, height}
 use Rattle.tree_model.specs.Places.{holds}
 use Rattle.tree_model.specs.declared.Place.TheVariants.{Gap}
 use Rattle.tree_model.specs.Items.{Item}
-use Rattle.tree_model.specs.Columns.{Column, empty_column, Operation, Add, Drop, Lay, apply_all}
+use Rattle.tree_model.specs.Columns.{Column, empty_column, Operation, Add, Lay, apply_all}
 use Rattle.tree_model.specs.Sums.{origins}
 use Rattle.tree_model.specs.Carried.{is_origin, carried}
 use Rattle.path_code.specs.Sums.{item_code, Sum, sum_of}
@@ -51,6 +51,10 @@ NormalIsTold = (s other : Sum) (codes : List ℕ) → IsNormal s → IsNormal ot
 abbrev pub SumsCompose : Type 0 → Type 0
 SumsCompose B = (same_time : Bool) (earlier later : List (Operation B)) (c : Column B) → height c.tree ≤ 63 → height (apply_all same_time earlier c).tree ≤ 63 → height (apply_all same_time later (apply_all same_time earlier c)).tree ≤ 63 → both_on (sum_of same_time earlier c) (sum_of same_time later (apply_all same_time earlier c)) (codes_of c.tree) ≡ sum_of same_time (earlier ++ later) c
 
+-- three changes that fit in turn: it makes no difference which two are composed first
+abbrev pub BothAssociate : Type 0
+BothAssociate = (s next last : Sum) (codes : List ℕ) → IsNormal s → FitsInTurn s next codes → Fits last (list_after next (list_after s codes)) → both_on (both_on s next codes) last codes ≡ both_on s (both_on next last (list_after s codes)) codes
+
 -- the change that leaves all codes
 unfoldable pub unchanged : Sum
 unchanged = record { moved = []; dropped = []; added = [] }
@@ -72,7 +76,7 @@ pub record FifthThenLaid (fifth laid both : Sum) (codes : List ℕ) : Type 0 whe
 
 abbrev pub FifthIsLaid : Type 0
 FifthIsLaid = FifthThenLaid
-  (sum_of false (Add (Gap 4) 5 ∷ []) (apply_all false ascending (empty_column ℕ)))
-  (sum_of false (Lay ∷ []) (apply_all false (Add (Gap 4) 5 ∷ []) (apply_all false ascending (empty_column ℕ))))
-  (sum_of false (Add (Gap 4) 5 ∷ Lay ∷ []) (apply_all false ascending (empty_column ℕ)))
-  (codes_of (apply_all false ascending (empty_column ℕ)).tree)
+    (sum_of false (Add (Gap 4) 5 ∷ []) (apply_all false ascending (empty_column ℕ)))
+    (sum_of false (Lay ∷ []) (apply_all false (Add (Gap 4) 5 ∷ []) (apply_all false ascending (empty_column ℕ))))
+    (sum_of false (Add (Gap 4) 5 ∷ Lay ∷ []) (apply_all false ascending (empty_column ℕ)))
+    (codes_of (apply_all false ascending (empty_column ℕ)).tree)

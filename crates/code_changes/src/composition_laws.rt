@@ -1,5 +1,5 @@
 //! Laws of changes in normal form and of their compositions. Each function is empty: its contract is the law.
-ghost use Rattle.code_changes.specs.CompositionLaws.{BothAreNormal, BothCompose, CodesFollow, FifthIsLaid, NormalIsTold, SumsAreNormal, SumsCompose, UnchangedIsNeutral};
+ghost use Rattle.code_changes.specs.CompositionLaws.{BothAreNormal, BothAssociate, BothCompose, CodesFollow, FifthIsLaid, NormalIsTold, SumsAreNormal, SumsCompose, UnchangedIsNeutral};
 
 /// The sum of operations is in normal form: each list increases, no dropped code is the old code of a pair, and each pair
 /// has two codes.
@@ -31,6 +31,11 @@ pub fn normal_is_told()
 /// The composition of the sums of two lists of operations is the sum of both.
 pub fn sums_compose<B>()
     ensures { SumsCompose B }
+{}
+
+/// Of three changes in turn it makes no difference which two are composed first.
+pub fn both_associate()
+    ensures { BothAssociate }
 {}
 
 /// The change that leaves all codes makes no difference, before another or after it.

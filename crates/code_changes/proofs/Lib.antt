@@ -13,3 +13,12 @@ pub mod After
 pub mod RankedCodes
 pub mod Removing
 pub mod Shifted
+pub mod Orders
+pub mod Becoming
+pub mod Both
+pub mod Told
+pub mod Following
+pub mod NormalForms
+pub mod NormalSums
+pub mod Halving
+pub mod Neutral

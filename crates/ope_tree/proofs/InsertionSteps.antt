@@ -7,6 +7,8 @@ use Rattle.tree_model.specs.Items.{Item, new_item, one_more, live, add_item, cha
 use Rattle.tree_model.specs.Balance.{limit, nearest_heavy}
 use Rattle.tree_model.specs.Places.{IsBelowAll, IsIncreasing}
 use Rattle.path_code.specs.SumLaws.{Increase}
+use Rattle.code_changes.specs.Normal.{IsNormal}
+use Rattle.code_changes.proofs.NormalForms.{nothing_moves}
 use Rattle.tree_model.specs.Insertion.{tree_at, graft, balanced_at, scapegoat_way, insert_tree, sizes_along}
 use Rattle.tree_model.specs.Removal.{change_tree}
 use Rattle.tree_model.specs.Parts.{IsWay}
@@ -102,9 +104,9 @@ change_settled c g rank added b moved e h deep is =
     (insert-tall most rank x t (graft rank x t) refl h (omega (arith, deep, len)))
     there.rank_is there.within)
 
--- ---- small changes increase
+-- ---- small changes are in normal form
 
-pub increase_one : (moved : List Recode) (dropped added : List ℕ) (code : ℕ) → moved ≡ [] → dropped ≡ [] → added ≡ code ∷ [] → Increase (record { moved = moved; dropped = dropped; added = added })
+increase_one : (moved : List Recode) (dropped added : List ℕ) (code : ℕ) → moved ≡ [] → dropped ≡ [] → added ≡ code ∷ [] → Increase (record { moved = moved; dropped = dropped; added = added })
 unfolding IsIncreasing IsBelowAll
 increase_one moved dropped added code em ed ea = record {
   old = subst (λ (m : List Recode). IsIncreasing (map (λ r. r.old) m)) (sym em) tt;
@@ -113,7 +115,7 @@ increase_one moved dropped added code em ed ea = record {
   added = subst IsIncreasing (sym ea) (tt, tt);
 }
 
-pub increase_nothing : (moved : List Recode) (dropped added : List ℕ) → moved ≡ [] → dropped ≡ [] → added ≡ [] → Increase (record { moved = moved; dropped = dropped; added = added })
+increase_nothing : (moved : List Recode) (dropped added : List ℕ) → moved ≡ [] → dropped ≡ [] → added ≡ [] → Increase (record { moved = moved; dropped = dropped; added = added })
 unfolding IsIncreasing
 increase_nothing moved dropped added em ed ea = record {
   old = subst (λ (m : List Recode). IsIncreasing (map (λ r. r.old) m)) (sym em) tt;
@@ -121,6 +123,12 @@ increase_nothing moved dropped added em ed ea = record {
   dropped = subst IsIncreasing (sym ed) tt;
   added = subst IsIncreasing (sym ea) tt;
 }
+
+pub normal_one : (moved : List Recode) (dropped added : List ℕ) (code : ℕ) → moved ≡ [] → dropped ≡ [] → added ≡ code ∷ [] → IsNormal (record { moved = moved; dropped = dropped; added = added })
+normal_one moved dropped added code em ed ea = nothing_moves (record { moved = moved; dropped = dropped; added = added }) em (increase_one moved dropped added code em ed ea)
+
+pub normal_nothing : (moved : List Recode) (dropped added : List ℕ) → moved ≡ [] → dropped ≡ [] → added ≡ [] → IsNormal (record { moved = moved; dropped = dropped; added = added })
+normal_nothing moved dropped added em ed ea = nothing_moves (record { moved = moved; dropped = dropped; added = added }) em (increase_nothing moved dropped added em ed ea)
 
 pub path_len : (p : Path) (w : List Side) → way p ≡ w → p.len ≡ length w
 path_len p w e = sym (length-steps p.len p.bits) ∙ ap length e

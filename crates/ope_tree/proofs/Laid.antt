@@ -9,9 +9,9 @@ use Rattle.tree_model.proofs.Ways.{length-inorder}
 use Rattle.tree_model.proofs.Halves.{size-balanced}
 use Rattle.tree_model.proofs.Kept.{IsKept-lay, IsKept-short, items-lay}
 use Rattle.path_code.specs.Sums.{Sum, sum_of}
-use Rattle.path_code.specs.SumLaws.{Increase}
+use Rattle.code_changes.specs.Normal.{IsNormal}
 use Rattle.path_code.specs.declared.moves.Recode.{Recode}
-use Rattle.path_code.proofs.Increasing.{sums_increase}
+use Rattle.code_changes.proofs.NormalSums.{sums_are_normal}
 use Rattle.code_changes.specs.Columns.{codes_of}
 use Rattle.code_changes.proofs.ItemCodes.{length-codes_of}
 use Rattle.code_changes.proofs.Staying.{lay_moves_codes}
@@ -68,9 +68,9 @@ pub laid-short : (c : Column Body) (u : Tree (Item Body)) → u ≡ balanced (in
 unfolding lay
 laid-short c u u_is kept few = let short = lay-short c kept few in omega (arith, short, ap height u_is)
 
-pub change_laid : (c : Column Body) → IsKept Body c → c.most ≤ 2 ^ 32 → Increase (sum_of false (Lay ∷ []) c)
+pub change_laid : (c : Column Body) → IsKept Body c → c.most ≤ 2 ^ 32 → IsNormal (sum_of false (Lay ∷ []) c)
 unfolding apply_all apply
-change_laid c kept few = sums_increase false (Lay ∷ []) c (IsKept-short c kept few) (lay-short c kept few)
+change_laid c kept few = sums_are_normal false (Lay ∷ []) c (IsKept-short c kept few) (lay-short c kept few)
 
 pub codes_as_many : (c : Column Body) (u : Tree (Item Body)) (before after : List ℕ) → u ≡ balanced (inorder c.tree) → before ≡ codes_of c.tree → after ≡ codes_of u → length before ≡ length after
 codes_as_many c u before after u_is before_is after_is =

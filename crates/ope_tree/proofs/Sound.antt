@@ -8,8 +8,8 @@ use Rattle.tree_model.specs.ColumnLaws.{IsKept}
 use Rattle.tree_model.proofs.Kept.{IsKept-empty, IsKept-short, IsKept-high, IsKept-apply}
 use Rattle.tree_model.proofs.Limits.{limit-le, limit-unique}
 use Rattle.path_code.specs.Sums.{Sum, sum_of}
-use Rattle.path_code.specs.SumLaws.{Increase}
-use Rattle.path_code.proofs.Increasing.{sums_increase}
+use Rattle.code_changes.specs.Normal.{IsNormal}
+use Rattle.code_changes.proofs.NormalSums.{sums_are_normal}
 use Rattle.mope_base.specs.declared.body.Body.{Body}
 use Rattle.ope_tree.specs.declared.nodes.Node.{Node}
 use Rattle.ope_tree.specs.Nodes.{tree_by, tree_of, IsLink}
@@ -66,9 +66,9 @@ sound_elsewhere old new root link alive most spent sound none h e =
     }
 
 -- what an operation does to codes is a change
-pub increase_after : (old : List Node) (root : Option ℕ) (alive most : ℕ) (operation : Operation Body) (s : Sum) → IsSound old root alive most false → (apply false operation (column_of old root most)).most ≤ 2 ^ 32 → s ≡ sum_of false (operation ∷ []) (column_of old root most) → Increase s
+pub normal_after : (old : List Node) (root : Option ℕ) (alive most : ℕ) (operation : Operation Body) (s : Sum) → IsSound old root alive most false → (apply false operation (column_of old root most)).most ≤ 2 ^ 32 → s ≡ sum_of false (operation ∷ []) (column_of old root most) → IsNormal s
 unfolding apply_all
-increase_after old root alive most operation s sound few e =
+normal_after old root alive most operation s sound few e =
     let c = column_of old root most in
-    let P : Sum → Type 0 = λ s. Increase s in
-    subst P (sym e) (sums_increase false (operation ∷ []) c (sound_short old root alive most false sound) (IsKept-short (apply false operation c) (IsKept-apply false operation c sound.kept) few))
+    let P : Sum → Type 0 = λ s. IsNormal s in
+    subst P (sym e) (sums_are_normal false (operation ∷ []) c (sound_short old root alive most false sound) (IsKept-short (apply false operation c) (IsKept-apply false operation c sound.kept) few))

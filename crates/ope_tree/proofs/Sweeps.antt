@@ -15,6 +15,8 @@ use Rattle.tree_model.proofs.Kept.{inorder-whole}
 use Rattle.path_code.specs.declared.moves.Recode.{Recode}
 use Rattle.path_code.specs.Sums.{Sum}
 use Rattle.path_code.specs.SumLaws.{Increase}
+use Rattle.code_changes.specs.Normal.{IsNormal}
+use Rattle.code_changes.proofs.NormalForms.{nothing_moves, taking, taking_normal}
 use Rattle.code_changes.specs.Changes.{differing, with_rows, without_rows}
 use Rattle.code_changes.specs.Columns.{codes_of}
 use Rattle.code_changes.proofs.Counts.{counts as item_counts, live-counts}
@@ -83,16 +85,16 @@ nil_rises : IsIncreasing []
 unfolding IsIncreasing
 nil_rises = tt
 
-pub empty_increases : (moved : List Recode) (dropped added : List ℕ) → moved ≡ [] → dropped ≡ [] → added ≡ [] → Increase (record { moved = moved; dropped = dropped; added = added })
-empty_increases moved dropped added e f g = record {
+empty_rises : (moved : List Recode) (dropped added : List ℕ) → moved ≡ [] → dropped ≡ [] → added ≡ [] → Increase (record { moved = moved; dropped = dropped; added = added })
+empty_rises moved dropped added e f g = record {
   old = subst (λ (ms : List Recode). IsIncreasing (map (λ r. r.old) ms)) (sym e) nil_rises;
   new = subst (λ (ms : List Recode). IsIncreasing (map (λ r. r.new) ms)) (sym e) nil_rises;
   dropped = subst (λ (ns : List ℕ). IsIncreasing ns) (sym f) nil_rises;
   added = subst (λ (ns : List ℕ). IsIncreasing ns) (sym g) nil_rises;
 }
 
-pub swept_increases : (t : Tree (Item Body)) → height t ≤ 63 → height (whole t) ≤ 63 → Increase (swept_sum t)
-swept_increases t high low =
+swept_rises : (t : Tree (Item Body)) → height t ≤ 63 → height (whole t) ≤ 63 → Increase (swept_sum t)
+swept_rises t high low =
     let olds = with_rows (counts_in t) (codes_of t) in
     let news = codes_of (whole t) in
     record {
@@ -101,6 +103,17 @@ swept_increases t high low =
       dropped = without_rises (counts_in t) (codes_of t) (IsIncreasing-codes_of t high);
       added = nil_rises;
     }
+
+pub empty_normal : (moved : List Recode) (dropped added : List ℕ) → moved ≡ [] → dropped ≡ [] → added ≡ [] → IsNormal (record { moved = moved; dropped = dropped; added = added })
+empty_normal moved dropped added e f g = nothing_moves (record { moved = moved; dropped = dropped; added = added }) e (empty_rises moved dropped added e f g)
+
+swept_takes : (t : Tree (Item Body)) → taking (counts_in t) (codes_of t) (codes_of (whole t)) [] ≡ swept_sum t
+unfolding taking
+swept_takes t = refl
+
+pub swept_normal : (t : Tree (Item Body)) → height t ≤ 63 → height (whole t) ≤ 63 → IsNormal (swept_sum t)
+swept_normal t high low =
+    subst IsNormal (swept_takes t) (taking_normal (counts_in t) (codes_of t) (codes_of (whole t)) [] (IsIncreasing-codes_of t high) (subst Increase (sym (swept_takes t)) (swept_rises t high low)))
 
 -- ---- the entries that were collected
 
@@ -160,9 +173,9 @@ change_is t u stayed after left added moved is =
     ap₂ (λ (ms : List Recode) (ds : List ℕ). sum_from ms ds added) pairs is.go
     ∙ ap (λ (ns : List ℕ). sum_from (differing (with_rows (counts_in t) (codes_of t)) (codes_of (whole t))) (without_rows (counts_in t) (codes_of t)) ns) is.none
 
-pub change_increases : (t u : Tree (Item Body)) (alive : ℕ) (stayed after left added : List ℕ) (moved : List Recode) → height t ≤ 63 → alive ≡ live (inorder t) → alive < 2 ^ 32 → IsMade t u stayed after left added moved → Increase (sum_from moved left added)
-change_increases t u alive stayed after left added moved high e few is =
-    subst (λ (s : Sum). Increase s) (sym (change_is t u stayed after left added moved is)) (swept_increases t high (whole_short t alive e few))
+pub change_normal : (t u : Tree (Item Body)) (alive : ℕ) (stayed after left added : List ℕ) (moved : List Recode) → height t ≤ 63 → alive ≡ live (inorder t) → alive < 2 ^ 32 → IsMade t u stayed after left added moved → IsNormal (sum_from moved left added)
+change_normal t u alive stayed after left added moved high e few is =
+    subst IsNormal (sym (change_is t u stayed after left added moved is)) (swept_normal t high (whole_short t alive e few))
 
 -- ---- as many codes stay as items
 

@@ -12,7 +12,7 @@ use Rattle.mope_base.specs.declared.body.Body.{Body}
 use Rattle.ope_tree.specs.declared.nodes.Entry.{Entry}
 use Rattle.ope_tree.specs.Nodes.{item_of, tree_of}
 use Rattle.ope_tree.specs.Seen.{column_of}
-use Rattle.ope_tree.proofs.InsertionSteps.{column_raised, live_after_raise, known_item, count_there, increase_nothing}
+use Rattle.ope_tree.proofs.InsertionSteps.{column_raised, live_after_raise, known_item, count_there, normal_nothing}
 use Rattle.ope_tree.proofs.Sound.{sound_after}
 use Rattle.ope_tree.proofs.inserting.raised.Goals as goal
 
@@ -35,7 +35,7 @@ overflow_add-result c =
     omega (arith, c.requires.sound.alive_is, live-le (inorder t), length-inorder t, c.requires.few, c.revived_by.ensures.few)
 
 pub of-requires : goal.of-requires
-of-requires c = increase_nothing c.new.result.items c.new-2.result.items c.new-3.result.items c.new.ensures.items c.new-2.ensures.items c.new-3.ensures.items
+of-requires c = normal_nothing c.new.result.items c.new-2.result.items c.new-3.result.items c.new.ensures.items c.new-2.ensures.items c.new-3.ensures.items
 
 pub returns-clause-sound : goal.returns-clause-sound
 unfolding items_of apply

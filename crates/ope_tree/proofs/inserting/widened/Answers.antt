@@ -16,7 +16,7 @@ use Rattle.mope_base.specs.declared.body.Body.{Body}
 use Rattle.ope_tree.specs.Nodes.{item_of, tree_of}
 use Rattle.ope_tree.specs.Seen.{column_of}
 use Rattle.ope_tree.proofs.InsertionSteps.{column_added, live_added, insert-tall, graft-low, change_alone, change_settled, path_len, not_deeper}
-use Rattle.ope_tree.proofs.Sound.{sound_short, sound_low, sound_after, increase_after}
+use Rattle.ope_tree.proofs.Sound.{sound_short, sound_low, sound_after, normal_after}
 use Rattle.ope_tree.proofs.inserting.widened.Goals as goal
 
 pub path_to-path-requires-clause-short : goal.path_to-path-requires-clause-short
@@ -168,7 +168,7 @@ of-requires c =
     let sum = same_sum c.in_ok-rebuilt.rebuilt.moved.items c.in_ok-rebuilt.rebuilt.moved.items c.new.result.items [] c.push.new.self.items (c.in_ok-rebuilt.rebuilt.added ∷ []) refl c.new.ensures.items added
     ∙ change_settled c0 g rank c.in_ok-rebuilt.rebuilt.added b c.in_ok-rebuilt.rebuilt.moved.items c.in_ok-grafted.ensures.names c.requires.is_rank real c.in_ok-rebuilt.ensures.codes in
     let s : Sum = record { moved = c.in_ok-rebuilt.rebuilt.moved.items; dropped = c.new.result.items; added = c.push.new.self.items } in
-    increase_after old c.args.root c.args.alive c.args.most (Add (Gap rank) b) s c.requires.sound (omega (arith, c.requires.sound.few, c.requires.few)) sum
+    normal_after old c.args.root c.args.alive c.args.most (Add (Gap rank) b) s c.requires.sound (omega (arith, c.requires.sound.few, c.requires.few)) sum
 
 pub returns-clause-column : goal.returns-clause-column
 unfolding item_of new_item

@@ -1,5 +1,5 @@
 use Rattle.std.proofs.Common.{false, ◌∙◌, sym, subst, arith}
-use Rattle.path_code.specs.SumLaws.{Increase}
+use Rattle.code_changes.specs.Normal.{IsNormal}
 use Rattle.ope_tree.specs.Nodes.{tree_of}
 use Rattle.ope_tree.specs.Seen.{column_of}
 use Rattle.ope_tree.proofs.Laid.{tree_laid, column_laid, sound_laid, laid-short, sum_laid, change_laid, codes_as_many}
@@ -27,7 +27,7 @@ of-requires c =
     let u = tree_of c.renewed.new.nodes c.in_ok-root.root in
     let u_is = tree_laid u (tree_of c.args.nodes.now c.args.root) c.new-entries.result.items c.collect.new.entries.items c.deref.result.now c.new-entries.ensures.items c.in_ok-collect.ensures c.deref.ensures.value c.in_ok-root.ensures.tree in
     let sum_is = sum_laid column u c.deref-2.result.now c.deref-3.result.now c.in_ok-moved.moved.items c.new.result.items c.new-2.result.items u_is (c.deref-2.ensures.value ∙ c.in_ok-before.ensures) (c.deref-3.ensures.value ∙ c.in_ok-after.ensures) c.in_ok-moved.ensures c.new.ensures.items c.new-2.ensures.items in
-    subst Increase (sym sum_is) (change_laid column c.requires.kept (omega (arith, c.requires.few)))
+    subst IsNormal (sym sum_is) (change_laid column c.requires.kept (omega (arith, c.requires.few)))
 
 pub returns-clause-sound : goal.returns-clause-sound
 returns-clause-sound c =

@@ -5,7 +5,7 @@ use Rattle.tree_model.specs.Columns.{whole, pruned}
 use Rattle.ope_tree.specs.declared.done.Done.{Done}
 use Rattle.ope_tree.specs.Nodes.{tree_of}
 use Rattle.ope_tree.specs.Seen.{column_of}
-use Rattle.ope_tree.proofs.Sweeps.{tested, is_sparse-true, is_sparse-false, apart, pruned-sparse, pruned-enough, alive_swept, empty_increases, IfOk-both}
+use Rattle.ope_tree.proofs.Sweeps.{tested, is_sparse-true, is_sparse-false, apart, pruned-sparse, pruned-enough, alive_swept, empty_normal, IfOk-both}
 use Rattle.ope_tree.proofs.sweeping.pruned.Goals as goal
 
 pub returns-then-needs_whole-clause-column : goal.returns-then-needs_whole-clause-column
@@ -40,7 +40,7 @@ returns-then-needs_whole-clause-enough c =
     c.swept.result c.swept.ensures.most c.swept.ensures.alive
 
 pub of-change-requires : goal.of-change-requires
-of-change-requires c = empty_increases c.new.result.items c.new-2.result.items c.new-3.result.items c.new.ensures.items c.new-2.ensures.items c.new-3.ensures.items
+of-change-requires c = empty_normal c.new.result.items c.new-2.result.items c.new-3.result.items c.new.ensures.items c.new-2.ensures.items c.new-3.ensures.items
 
 pub returns-clause-column : goal.returns-clause-column
 returns-clause-column c =

@@ -3,7 +3,7 @@ use Rattle.mope_base.specs.declared.body.Body.{Body}
 use Rattle.tree_model.specs.Trees.{Tree, height}
 use Rattle.tree_model.specs.Items.{Item}
 use Rattle.ope_tree.specs.Nodes.{tree_of}
-use Rattle.ope_tree.proofs.Sweeps.{IsSeen, collected, stayed_is, dropped_is, whole_is, whole_short, as_many, IsMade, change_is, change_increases}
+use Rattle.ope_tree.proofs.Sweeps.{IsSeen, collected, stayed_is, dropped_is, whole_is, whole_short, as_many, IsMade, change_is, change_normal}
 use Rattle.ope_tree.proofs.sweeping.swept.Goals as goal
 
 pub all_codes-requires-2-clause-short : goal.all_codes-requires-2-clause-short
@@ -46,7 +46,7 @@ of-change-requires c =
       pairs = c.in_ok-moved.ensures;
       none = c.new.ensures.items;
     } in
-    change_increases t u c.args.alive c.deref-7.result.now c.deref-8.result.now c.in_ok-dropped.dropped.items c.new.result.items c.in_ok-moved.moved.items c.requires.short c.requires.alive (omega arith) made
+    change_normal t u c.args.alive c.deref-7.result.now c.deref-8.result.now c.in_ok-dropped.dropped.items c.new.result.items c.in_ok-moved.moved.items c.requires.short c.requires.alive (omega arith) made
 
 pub returns-clause-change : goal.returns-clause-change
 returns-clause-change c =

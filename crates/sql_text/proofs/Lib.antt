@@ -17,3 +17,5 @@ mod PrintedLines
 mod PrintedBytes
 mod PrintedLexed
 mod PrintedStyles
+pub mod FrameRuns
+pub mod FrameVerdicts

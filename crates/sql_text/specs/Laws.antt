@@ -1,7 +1,11 @@
 -- Laws of statements.
 use Rattle.std.specs.Prelude.{◌≡◌, ℕ, List}
 use Rattle.sql_text.specs.Canonical.{canonical}
-use Rattle.sql_text.specs.Faults.{Gives}
+use Rattle.sql_text.specs.Faults.{Gives, IsFault, IsSpelled}
+use Rattle.sql_text.specs.FrameLines.{IsFrameLine}
+use Rattle.sql_text.specs.declared.frames.Frame.{Frame}
+use Rattle.sql_text.specs.declared.parsing.Reason.{Reason}
+use Rattle.sql_text.specs.declared.parsing.Reason.TheVariants.{Syntax}
 use Rattle.sql_text.specs.declared.statements.Stmt.{Stmt}
 
 -- a line gives one statement at most
@@ -11,3 +15,19 @@ LinesGiveOneStatement = (line : List ℕ) (s t : Stmt) → Gives line s → Give
 -- the canonical line of a statement that some line gives is one that gives it
 abbrev pub PrintedIsRead : Type 0
 PrintedIsRead = (line : List ℕ) (s : Stmt) → Gives line s → Gives (canonical s) s
+
+-- a line is one frame at most
+abbrev pub LinesAreOneFrame : Type 0
+LinesAreOneFrame = (line : List ℕ) (f g : Frame) → IsFrameLine line f → IsFrameLine line g → f ≡ g
+
+-- no line is both a frame and a statement
+abbrev pub FramesGiveNoStatement : Type 0
+FramesGiveNoStatement = (line : List ℕ) (f : Frame) (s : Stmt) → IsFrameLine line f → Gives line s → ⊥
+
+-- nor does a frame spell a statement that has too many elements
+abbrev pub FramesSpellNoStatement : Type 0
+FramesSpellNoStatement = (line : List ℕ) (f : Frame) (s : Stmt) → IsFrameLine line f → IsSpelled line s → ⊥
+
+-- read as a statement, a frame has no fault but one of syntax
+abbrev pub FramesHaveNoOtherFault : Type 0
+FramesHaveNoOtherFault = (line : List ℕ) (f : Frame) (at : ℕ) (reason : Reason) → IsFrameLine line f → IsFault line at reason → reason ≡ Syntax

@@ -1,10 +1,13 @@
-//! The statements of SQL that a workload is written in: lines as statements, and statements as lines.
+//! The statements of SQL that a workload is written in: lines as statements, and statements as lines. And
+//! the lines that frame them.
 #![tactic(auto)]
 
 use mope_base::Items;
 
 mod arrange_steps;
 mod filter_steps;
+mod frame_steps;
+mod frames;
 pub mod laws;
 mod letting_go;
 mod lines;
@@ -18,6 +21,7 @@ mod states;
 mod steps;
 mod tokens;
 
+pub use frames::{Frame, read_frame};
 pub use parsing::{ParseStop, Reason, parse};
 pub use printing::print;
 pub use statements::{Cond, Order, Stmt, What};

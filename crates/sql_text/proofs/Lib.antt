@@ -19,3 +19,4 @@ mod PrintedLexed
 mod PrintedStyles
 pub mod FrameRuns
 pub mod FrameVerdicts
+pub mod FaultsOnce

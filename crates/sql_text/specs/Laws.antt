@@ -12,6 +12,14 @@ use Rattle.sql_text.specs.declared.statements.Stmt.{Stmt}
 abbrev pub LinesGiveOneStatement : Type 0
 LinesGiveOneStatement = (line : List ℕ) (s t : Stmt) → Gives line s → Gives line t → s ≡ t
 
+-- a line has one fault at most, at one place
+abbrev pub LinesHaveOneFault : Type 0
+LinesHaveOneFault = (line : List ℕ) (at other : ℕ) (reason why : Reason) → IsFault line at reason → IsFault line other why → (at ≡ other) × (reason ≡ why)
+
+-- a line that has a fault gives no statement
+abbrev pub FaultsGiveNoStatement : Type 0
+FaultsGiveNoStatement = (line : List ℕ) (at : ℕ) (reason : Reason) (s : Stmt) → IsFault line at reason → Gives line s → ⊥
+
 -- the canonical line of a statement that some line gives is one that gives it
 abbrev pub PrintedIsRead : Type 0
 PrintedIsRead = (line : List ℕ) (s : Stmt) → Gives line s → Gives (canonical s) s

@@ -1,10 +1,16 @@
 //! Laws of statements. Each function is empty: its contract is the law.
 ghost use Rattle.sql_text.specs.Examples.{WorkedExamples};
-ghost use Rattle.sql_text.specs.Laws.{FramesGiveNoStatement, FramesHaveNoOtherFault, FramesSpellNoStatement, LinesAreOneFrame, LinesGiveOneStatement, PrintedIsRead};
+ghost use Rattle.sql_text.specs.Laws.{FaultsGiveNoStatement, FramesGiveNoStatement, FramesHaveNoOtherFault, FramesSpellNoStatement, LinesAreOneFrame, LinesGiveOneStatement, LinesHaveOneFault, PrintedIsRead};
 
 /// A line gives one statement at most.
 pub fn lines_give_one_statement()
     ensures { LinesGiveOneStatement }
+{}
+
+/// A line has one fault at most, at one place, and then it gives no statement.
+pub fn lines_have_one_fault()
+    ensures once { LinesHaveOneFault }
+    ensures alone { FaultsGiveNoStatement }
 {}
 
 /// The canonical line of a statement that some line gives is one that gives it.

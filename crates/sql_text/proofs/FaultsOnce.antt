@@ -3,9 +3,9 @@ use Rattle.std.proofs.Common.{◌≡◌, ◌⊎◌, ℕ, List, [], ◌∷◌, �
 use Rattle.std.proofs.lemmas.List.{map-append}
 use Rattle.std.specs.List.{slice_get}
 use Rattle.std.specs.Option.{option_map}
-use Rattle.sql_text.proofs.Begun.{run_on_some, run_begins, run_spells, spells_ends, spells_once}
-use Rattle.sql_text.proofs.Running.{run, run_on, run-append, Ends}
-use Rattle.sql_text.specs.Faults.{Gives, HasTokens, IsTokenFault, IsWrongToken, IsUnfinished, IsSyntaxFault, IsTooMany, IsFault}
+use Rattle.sql_text.proofs.Begun.{run_on_some, run_begins, run_spells, spells_ends}
+use Rattle.sql_text.proofs.Running.{run, run_on, run-append}
+use Rattle.sql_text.specs.Faults.{Gives, HasTokens, IsTokenFault, IsWrongToken, IsUnfinished, IsTooMany, IsFault}
 use Rattle.sql_text.specs.Grammar.{Spells, Begins, ninth}
 use Rattle.sql_text.specs.Lexing.{Placed, Fault, tokens_of, first_bad_byte, bare}
 use Rattle.sql_text.specs.Machine.{drive, go_on, step, finished}

@@ -20,3 +20,4 @@ mod PrintedStyles
 pub mod FrameRuns
 pub mod FrameVerdicts
 pub mod FaultsOnce
+pub mod BlankLines

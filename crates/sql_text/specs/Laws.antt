@@ -1,8 +1,9 @@
 -- Laws of statements.
-use Rattle.std.specs.Prelude.{◌≡◌, ℕ, List}
+use Rattle.std.specs.Prelude.{◌≡◌, ◌↔◌, ℕ, List, [], length, IsTrue}
 use Rattle.sql_text.specs.Canonical.{canonical}
-use Rattle.sql_text.specs.Faults.{Gives, IsFault, IsSpelled}
-use Rattle.sql_text.specs.FrameLines.{IsFrameLine}
+use Rattle.sql_text.specs.Faults.{Gives, HasTokens, IsFault, IsSpelled}
+use Rattle.sql_text.specs.FrameLines.{IsFrameLine, IsNoFrame}
+use Rattle.sql_text.specs.Words.{is_blank_line}
 use Rattle.sql_text.specs.declared.frames.Frame.{Frame}
 use Rattle.sql_text.specs.declared.parsing.Reason.{Reason}
 use Rattle.sql_text.specs.declared.parsing.Reason.TheVariants.{Syntax}
@@ -39,3 +40,15 @@ FramesSpellNoStatement = (line : List ℕ) (f : Frame) (s : Stmt) → IsFrameLin
 -- read as a statement, a frame has no fault but one of syntax
 abbrev pub FramesHaveNoOtherFault : Type 0
 FramesHaveNoOtherFault = (line : List ℕ) (f : Frame) (at : ℕ) (reason : Reason) → IsFrameLine line f → IsFault line at reason → reason ≡ Syntax
+
+-- a line is blank exactly where it has no tokens, and no fault of a byte or a token either
+abbrev pub BlankLinesHaveNoTokens : Type 0
+BlankLinesHaveNoTokens = (line : List ℕ) → IsTrue (is_blank_line line) ↔ HasTokens line []
+
+-- it is no frame
+abbrev pub BlankLinesAreNoFrames : Type 0
+BlankLinesAreNoFrames = (line : List ℕ) → IsTrue (is_blank_line line) → IsNoFrame line
+
+-- read as a statement, it ends where none has begun
+abbrev pub BlankLinesAreNoStatements : Type 0
+BlankLinesAreNoStatements = (line : List ℕ) → IsTrue (is_blank_line line) → IsFault line (length line) Syntax

@@ -1,6 +1,6 @@
 //! Laws of statements. Each function is empty: its contract is the law.
 ghost use Rattle.sql_text.specs.Examples.{WorkedExamples};
-ghost use Rattle.sql_text.specs.Laws.{FaultsGiveNoStatement, FramesGiveNoStatement, FramesHaveNoOtherFault, FramesSpellNoStatement, LinesAreOneFrame, LinesGiveOneStatement, LinesHaveOneFault, PrintedIsRead};
+ghost use Rattle.sql_text.specs.Laws.{BlankLinesAreNoFrames, BlankLinesAreNoStatements, BlankLinesHaveNoTokens, FaultsGiveNoStatement, FramesGiveNoStatement, FramesHaveNoOtherFault, FramesSpellNoStatement, LinesAreOneFrame, LinesGiveOneStatement, LinesHaveOneFault, PrintedIsRead};
 
 /// A line gives one statement at most.
 pub fn lines_give_one_statement()
@@ -39,4 +39,11 @@ pub fn frames_are_no_statements()
 /// is at fault.
 pub fn frames_have_no_other_fault()
     ensures { FramesHaveNoOtherFault }
+{}
+
+/// A line is blank exactly where it has no tokens, and then it spells neither a frame nor a statement.
+pub fn blank_lines()
+    ensures tokens { BlankLinesHaveNoTokens }
+    ensures frame { BlankLinesAreNoFrames }
+    ensures statement { BlankLinesAreNoStatements }
 {}

@@ -24,6 +24,7 @@ mod tokens;
 pub use frames::{Frame, read_frame};
 pub use parsing::{ParseStop, Reason, parse};
 pub use printing::print;
+pub use scanning::is_blank_line;
 pub use statements::{Cond, Order, Stmt, What};
 
 /// The bytes of the name of a table or a column: a letter, then letters, digits and underscores. Names are

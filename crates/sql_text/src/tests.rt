@@ -1,6 +1,6 @@
 ghost use Rattle.std.specs.Prelude.{◌≡◌, IfOk, length};
 
-use crate::{Frame, ParseStop, Reason, parse, print, read_frame};
+use crate::{Frame, ParseStop, Reason, is_blank_line, parse, print, read_frame};
 use mope_base::{Items, OutOfMemory};
 use std::alloc::Global;
 
@@ -200,5 +200,19 @@ fn lines_with_their_frames(rt: HostRuntime) {
     ] {
         let text = shown(rt.alloc(), line).expect(&rt, "memory");
         assert_eq!(rt; text.as_slice(), frame, "at {line:?}");
+    }
+}
+
+#[test]
+fn blank_lines(rt: HostRuntime) {
+    for (line, blank) in [
+        (&b""[..], true),
+        (&b" \t  "[..], true),
+        (&b" ;"[..], false),
+        (&b"\r"[..], false),
+        (&b"\x0b"[..], false),
+        (&b"END"[..], false),
+    ] {
+        assert_eq!(rt; is_blank_line(line), blank, "at {line:?}");
     }
 }

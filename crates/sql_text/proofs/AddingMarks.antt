@@ -42,17 +42,17 @@ use Rattle.sql_text.specs.declared.tokens.Token.TheVariants.{Fixed, Named, Numbe
 pub mark_is : (a b : Mark) → is_mark a b ≡ true → a ≡ b
 mark_is a b e = same_true the_type (search rules) a b e
 
-pub none_taken : (P : Type 0) (next : State) → None ≡ Some next → P
+pub none_taken : {S : Type 0} (P : Type 0) (next : S) → None ≡ Some next → P
 none_taken P next e = cc
 
-taken : (P : Mark → State → Type 0) (b : Bool) (m k : Mark) (s next : State) (other : Option State) → (b ≡ true → m ≡ k) → cond b (Some s) other ≡ Some next → P k s → (other ≡ Some next → P m next) → P m next
+taken : {S : Type 0} (P : Mark → S → Type 0) (b : Bool) (m k : Mark) (s next : S) (other : Option S) → (b ≡ true → m ≡ k) → cond b (Some s) other ≡ Some next → P k s → (other ≡ Some next → P m next) → P m next
 taken P true m k s next other same e here there =
     let e2 : s ≡ next = cc in
     subst (λ n. P m n) e2 (subst (λ x. P x s) (sym (same refl)) here)
 taken P false m k s next other same e here there = there e
 
 -- a mark is taken by a test for it, or by those behind that test
-pub if_mark : (P : Mark → State → Type 0) (m k : Mark) (s next : State) (other : Option State) → cond (is_mark m k) (Some s) other ≡ Some next → P k s → (other ≡ Some next → P m next) → P m next
+pub if_mark : {S : Type 0} (P : Mark → S → Type 0) (m k : Mark) (s next : S) (other : Option S) → cond (is_mark m k) (Some s) other ≡ Some next → P k s → (other ≡ Some next → P m next) → P m next
 if_mark P m k s next other e here there = taken P (is_mark m k) m k s next other (mark_is m k) e here there
 
 pub asked_rows : (rows : Rows) (order : Option Order) (limit : Option ℕ) → RowsSound rows → IsAsked (rows_what rows) order limit

@@ -31,7 +31,7 @@ pub some-snoc : {A : Type 0} (xs : List A) (x : A) → HasSome (xs ++ x ∷ [])
 some-snoc [] x = tt
 some-snoc (y ∷ ys) x = tt
 
-some_taken : (P : State → Type 0) (s next : State) → Some s ≡ Some next → P s → P next
+pub some_taken : {S : Type 0} (P : S → Type 0) (s next : S) → Some s ≡ Some next → P s → P next
 some_taken P s next e here = let e2 : s ≡ next = cc in subst P e2 here
 
 -- one more element of a list of names or numbers

@@ -17,3 +17,7 @@ mod PrintedLines
 mod PrintedBytes
 mod PrintedLexed
 mod PrintedStyles
+pub mod FrameRuns
+pub mod FrameVerdicts
+pub mod FaultsOnce
+pub mod BlankLines

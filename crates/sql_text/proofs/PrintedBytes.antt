@@ -63,8 +63,10 @@ none_bad (b ∷ line) h =
     let parts = and_parts (is_allowed b) _ h in
     rw parts.0 (rw (none_bad line parts.1) (omega arith))
 
+pub no_bad_byte : (line : List ℕ) → list_all is_allowed line ≡ true → first_bad_byte line ≡ None
+no_bad_byte line h =
+    let all : position_or_len (λ b. not (is_allowed b)) line ≡ length line = none_bad line h in
+    cond-false _ _ _ (le-ltb (position_or_len (λ b. not (is_allowed b)) line) (length line) (omega (arith, all)))
+
 pub text_has_no_bad_byte : (tokens : List Token) → AreTokens tokens → first_bad_byte (text_of tokens) ≡ None
-text_has_no_bad_byte tokens are =
-    let text : List ℕ = text_of tokens in
-    let all : position_or_len (λ b. not (is_allowed b)) text ≡ length text = none_bad text (text_allowed tokens are) in
-    cond-false _ _ _ (le-ltb (position_or_len (λ b. not (is_allowed b)) text) (length text) (omega (arith, all)))
+text_has_no_bad_byte tokens are = no_bad_byte (text_of tokens) (text_allowed tokens are)

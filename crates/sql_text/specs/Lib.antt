@@ -10,3 +10,5 @@ pub mod Scans
 pub mod Driven
 pub mod Marked
 pub mod Written
+pub mod FrameLines
+pub mod FrameMachine

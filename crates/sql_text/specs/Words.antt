@@ -2,7 +2,7 @@
 use Rattle.std.specs.Prelude.{◌≡◌, ◌≤◌, ℕ, Bool, true, ◌||◌, ◌==◌, List, [], ◌∷◌, length, slice_index, Option, None, codes}
 use Rattle.std.specs.Char.{is_ascii_alphabetic, is_ascii_alphanumeric, is_ascii_digit}
 use Rattle.std.specs.Int.{is_in_range}
-use Rattle.std.specs.List.{find, prefix_len, take_while}
+use Rattle.std.specs.List.{find, list_all, prefix_len, take_while}
 use Rattle.std.specs.Str.{str_eq_ignore_ascii_case}
 use Rattle.sql_text.specs.declared.marks.Mark.{Mark}
 use Rattle.sql_text.specs.declared.marks.Mark.TheVariants.{And, Asc, Begin, Between, By, Commit, Count, Delete, Desc, End, From, Insert, Into, Limit, Max, Min, Mope, Order, Rebuild, Rollback, Select, Session, Table, Values, Where, Open, Close, Comma, Star, Semicolon, Equal, Less, LessEqual, Greater, GreaterEqual}
@@ -10,6 +10,10 @@ use Rattle.sql_text.specs.declared.marks.Mark.TheVariants.{And, Asc, Begin, Betw
 -- a space or a tab
 abbrev pub is_blank : ℕ → Bool
 is_blank b = b == 32 || b == 9
+
+-- a line of blanks alone, or of nothing
+abbrev pub is_blank_line : List ℕ → Bool
+is_blank_line line = list_all is_blank line
 
 -- a tab, or from the space to '~'
 abbrev pub is_allowed : ℕ → Bool

@@ -1,10 +1,13 @@
-//! The statements of SQL that a workload is written in: lines as statements, and statements as lines.
+//! The statements of SQL that a workload is written in: lines as statements, and statements as lines. And
+//! the lines that frame them.
 #![tactic(auto)]
 
 use mope_base::Items;
 
 mod arrange_steps;
 mod filter_steps;
+mod frame_steps;
+mod frames;
 pub mod laws;
 mod letting_go;
 mod lines;
@@ -18,8 +21,10 @@ mod states;
 mod steps;
 mod tokens;
 
+pub use frames::{Frame, read_frame};
 pub use parsing::{ParseStop, Reason, parse};
 pub use printing::print;
+pub use scanning::is_blank_line;
 pub use statements::{Cond, Order, Stmt, What};
 
 /// The bytes of the name of a table or a column: a letter, then letters, digits and underscores. Names are

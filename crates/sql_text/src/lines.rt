@@ -60,7 +60,11 @@ pub fn drive(alloc: Global, line: &[u8]) -> Result<Result<State, usize>, OutOfMe
 }
 
 /// The token at a place and how many bytes it takes, or none where none starts there.
-fn next_token(alloc: Global, line: &[u8], at: usize) -> Result<Option<(Token, usize)>, OutOfMemory>
+pub fn next_token(
+    alloc: Global,
+    line: &[u8],
+    at: usize,
+) -> Result<Option<(Token, usize)>, OutOfMemory>
     requires within { at < length line.now }
     requires begins { is_blank_at line.now at ≡ false }
     ensures { IfOk result (λ next. IsNext line.now at next) }
@@ -92,7 +96,7 @@ pub fn place_of(line: &[u8], number: usize) -> usize
 }
 
 /// The first place from `from` on at which no blank stands.
-fn skip_blanks(line: &[u8], from: usize) -> usize
+pub fn skip_blanks(line: &[u8], from: usize) -> usize
     requires { from ≤ length line.now }
     ensures from { from ≤ result }
     ensures within { result ≤ length line.now }

@@ -6,7 +6,7 @@ ghost use Rattle.std.specs.Str.Parse.{digits_value};
 ghost use Rattle.sql_text.specs.declared.scanning.Kind.TheVariants as kind;
 ghost use Rattle.sql_text.specs.Lexing.{first_bad_byte, is_numeral, number_at, symbol_at, token_at, with_equal, word_at};
 ghost use Rattle.sql_text.specs.Scans.{seen};
-ghost use Rattle.sql_text.specs.Words.{is_allowed, is_blank, is_word_byte, keyword_of, mark_text, word_front};
+ghost use Rattle.sql_text.specs.Words.{is_allowed, is_blank, is_blank_line, is_word_byte, keyword_of, mark_text, word_front};
 
 use crate::marks::Mark;
 use crate::parsing::Reason;
@@ -82,6 +82,14 @@ pub fn is_blank(byte: u8) -> bool
     ensures { result ≡ is_blank byte }
 {
     byte == b' ' || byte == b'\t'
+}
+
+/// Whether a line has nothing but spaces and tabs. A workload's reader skips such a line, which spells
+/// neither a frame nor a statement.
+pub fn is_blank_line(line: &[u8]) -> bool
+    ensures { result ≡ is_blank_line line.now }
+{
+    line.iter().all(|byte| is_blank(*byte))
 }
 
 /// The place of the first byte that may not stand in a line.

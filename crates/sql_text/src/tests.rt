@@ -1,6 +1,6 @@
 ghost use Rattle.std.specs.Prelude.{◌≡◌, IfOk, length};
 
-use crate::{ParseStop, Reason, parse, print};
+use crate::{Frame, ParseStop, Reason, is_blank_line, parse, print, read_frame};
 use mope_base::{Items, OutOfMemory};
 use std::alloc::Global;
 
@@ -126,4 +126,93 @@ fn line_of_spaces(rt: HostRuntime) {
         fault(rt.alloc(), line.as_slice()),
         Some((8_388_608, Reason::Syntax))
     );
+}
+
+/// The frame that a line spells, as a text.
+fn shown(alloc: Global, line: &[u8]) -> Result<Vec<u8>, OutOfMemory> {
+    let mut text = Vec::new(alloc);
+    match read_frame(alloc, line)? {
+        None => text.extend_from_slice(b"none")?,
+        Some(Frame::Header) => text.extend_from_slice(b"header")?,
+        Some(Frame::Session) => text.extend_from_slice(b"session")?,
+        Some(Frame::End) => text.extend_from_slice(b"end")?,
+        Some(Frame::Table { name, columns }) => {
+            text.extend_from_slice(b"table ")?;
+            text.extend_from_slice(name.bytes.as_slice())?;
+            for column in columns.as_slice() {
+                text.push(b' ')?;
+                text.extend_from_slice(column.bytes.as_slice())?;
+            }
+        }
+    }
+    Ok(text)
+}
+
+// Lines that frame statements, and others that nearly do.
+#[test]
+fn lines_with_their_frames(rt: HostRuntime) {
+    for (line, frame) in [
+        (&b"mope 1"[..], &b"header"[..]),
+        (&b" \tMOPE\t1  "[..], &b"header"[..]),
+        (&b"Mope 1;"[..], &b"none"[..]),
+        (&b"mope 2"[..], &b"none"[..]),
+        (&b"mope 01"[..], &b"none"[..]),
+        (&b"mope1"[..], &b"none"[..]),
+        (&b"mope"[..], &b"none"[..]),
+        (&b"mope 1 1"[..], &b"none"[..]),
+        (&b"TABLE t (a)"[..], &b"table t a"[..]),
+        (&b"table T(a,B_2)"[..], &b"table T a B_2"[..]),
+        (&b"TABLE t ( t , t )"[..], &b"table t t t"[..]),
+        (
+            &b"TABLE t (a, b, c, d, e, f, g, h, i)"[..],
+            &b"table t a b c d e f g h i"[..],
+        ),
+        (
+            &b"TABLE a23456789_123456789_123456789_12 (a)"[..],
+            &b"table a23456789_123456789_123456789_12 a"[..],
+        ),
+        (
+            &b"TABLE a23456789_123456789_123456789_123 (a)"[..],
+            &b"none"[..],
+        ),
+        (&b"TABLE t"[..], &b"none"[..]),
+        (&b"TABLE t a"[..], &b"none"[..]),
+        (&b"TABLE t ()"[..], &b"none"[..]),
+        (&b"TABLE t (a"[..], &b"none"[..]),
+        (&b"TABLE t (a,)"[..], &b"none"[..]),
+        (&b"TABLE t (a b)"[..], &b"none"[..]),
+        (&b"TABLE t (7)"[..], &b"none"[..]),
+        (&b"TABLE t (a);"[..], &b"none"[..]),
+        (&b"TABLE t (a) ?"[..], &b"none"[..]),
+        (&b"TABLE table (a)"[..], &b"none"[..]),
+        (&b"TABLE t (from)"[..], &b"none"[..]),
+        (&b"SESSION"[..], &b"session"[..]),
+        (&b"\tsesSION "[..], &b"session"[..]),
+        (&b"SESSION 1"[..], &b"none"[..]),
+        (&b"SESSION;"[..], &b"none"[..]),
+        (&b"END"[..], &b"end"[..]),
+        (&b"end\t"[..], &b"end"[..]),
+        (&b"END END"[..], &b"none"[..]),
+        (&b"END\r"[..], &b"none"[..]),
+        (&b""[..], &b"none"[..]),
+        (&b" \t"[..], &b"none"[..]),
+        (&b"COMMIT"[..], &b"none"[..]),
+    ] {
+        let text = shown(rt.alloc(), line).expect(&rt, "memory");
+        assert_eq!(rt; text.as_slice(), frame, "at {line:?}");
+    }
+}
+
+#[test]
+fn blank_lines(rt: HostRuntime) {
+    for (line, blank) in [
+        (&b""[..], true),
+        (&b" \t  "[..], true),
+        (&b" ;"[..], false),
+        (&b"\r"[..], false),
+        (&b"\x0b"[..], false),
+        (&b"END"[..], false),
+    ] {
+        assert_eq!(rt; is_blank_line(line), blank, "at {line:?}");
+    }
 }

@@ -4,7 +4,7 @@ use Rattle.std.specs.Int.Bits.{bit_xor, xor_assoc, xor_self, xor_zero_r}
 use Rattle.std.proofs.lemmas.Nat.{xor_lt}
 use Rattle.mope_base.specs.declared.body.Body.{Body}
 use Rattle.value_cipher.specs.Block.{block_word}
-use Rattle.value_cipher.specs.Cipher.{pad_of, seal_of, unseal_of, nonce_at}
+use Rattle.value_cipher.specs.Cipher.{pad_of, seal_of, unseal_of, nonce_at, Cell, value_of, sealed}
 
 -- a pad that is added twice is gone
 xor_twice : (a b : ℕ) → bit_xor (bit_xor a b) b ≡ a
@@ -58,3 +58,16 @@ seal_of-one_cell key nonce value other next same = (
   sym (nonce-seal_of key nonce value) ∙ ap (λ (b : Body). b.nonce) same ∙ nonce-seal_of key other next,
   sym (unseal_of-seal_of key nonce value) ∙ ap (unseal_of key) same ∙ unseal_of-seal_of key other next,
 )
+
+-- what a sealed cell shows
+pub unseal_of-sealed : (key : List ℕ) (cell : Cell) → unseal_of key (sealed key cell) ≡ value_of cell
+unfolding sealed
+unseal_of-sealed key cell = unseal_of-seal_of key cell.nonce (value_of cell)
+
+pub nonce-sealed : (key : List ℕ) (cell : Cell) → (sealed key cell).nonce ≡ cell.nonce
+unfolding sealed
+nonce-sealed key cell = nonce-seal_of key cell.nonce (value_of cell)
+
+pub masked-sealed-lt : (key : List ℕ) (cell : Cell) → value_of cell < 2 ^ 64 → (sealed key cell).masked < 2 ^ 64
+unfolding sealed
+masked-sealed-lt key cell fits = masked-seal_of-lt key cell.nonce (value_of cell) fits

@@ -16,6 +16,18 @@ seal_of key nonce value = record { nonce = nonce; masked = bit_xor value (pad_of
 unfoldable pub unseal_of : List ℕ → Body → ℕ
 unseal_of key body = bit_xor body.masked (pad_of key body.nonce)
 
+-- a value before it is sealed, and the nonce under which it is: what a model of the data holds where the server holds a body
+pub record Cell : Type 0 where
+  pub nonce : ℕ
+  pub value : ℕ
+
+unfoldable pub value_of : Cell → ℕ
+value_of cell = cell.value
+
+-- the body that the server holds for a cell
+unfoldable pub sealed : List ℕ → Cell → Body
+sealed key cell = seal_of key cell.nonce (value_of cell)
+
 -- the nonce of the cell that a session, from 1, seals after `counter` others: each has 2 ^ 32
 unfoldable pub nonce_at : ℕ → ℕ → ℕ → ℕ
 nonce_at first session counter = first + (session - 1) * 2 ^ 32 + counter
@@ -28,6 +40,18 @@ UnsealsWhatWasSealed =
 -- each body is the seal of what it unseals to, under its own nonce
 abbrev pub SealsWhatWasUnsealed : Type 0
 SealsWhatWasUnsealed = (key : List ℕ) (body : Body) → seal_of key body.nonce (unseal_of key body) ≡ body
+
+-- a sealed cell unseals to its value
+abbrev pub SealedCellsUnseal : Type 0
+SealedCellsUnseal = (key : List ℕ) (cell : Cell) → unseal_of key (sealed key cell) ≡ value_of cell
+
+-- it keeps its nonce
+abbrev pub SealedCellsKeepNonces : Type 0
+SealedCellsKeepNonces = (key : List ℕ) (cell : Cell) → (sealed key cell).nonce ≡ cell.nonce
+
+-- a value of 64 bits is masked as one
+abbrev pub SealedCellsFit : Type 0
+SealedCellsFit = (key : List ℕ) (cell : Cell) → value_of cell < 2 ^ 64 → (sealed key cell).masked < 2 ^ 64
 
 -- two cells of one nonce are one cell of one session
 abbrev pub EachNonceIsOneCell : Type 0

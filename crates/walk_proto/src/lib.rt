@@ -15,9 +15,10 @@ mod writing;
 
 pub use faults::WireStop;
 pub use link::Link;
-pub use messages::{Asked, How, Reply, Request};
+pub use messages::{Asked, Exchange, How, Reply, Request};
 pub use reading::read_request;
 pub use reply_reading::read_reply;
+pub use rules::is_reply;
 pub use writing::{write_reply, write_request};
 
 #[cfg(test)]

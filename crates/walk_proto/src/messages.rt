@@ -63,6 +63,13 @@ pub enum Reply {
     No { code: u8, value: u32 },
 }
 
+/// A request and the reply to it.
+#[derive(Debug, Drop)]
+pub struct Exchange {
+    pub request: Request,
+    pub reply: Reply,
+}
+
 /// How a transaction began or ended.
 #[derive(Clone, Copy, Debug, PartialEq, Eq)]
 pub enum How {

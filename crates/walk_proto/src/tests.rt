@@ -1,7 +1,7 @@
 ghost use Rattle.std.specs.Prelude.{◌≡◌, IfOk};
 
-use crate::{WireStop, read_reply, read_request, write_reply, write_request};
-use mope_base::Items;
+use crate::{How, Reply, WireStop, is_reply, read_reply, read_request, write_reply, write_request};
+use mope_base::{Body, Items, OutOfMemory};
 use std::alloc::Global;
 use std::process::Abort;
 use std::test::Fail;
@@ -237,5 +237,69 @@ fn faults_of_each_reply_field(rt: HostRuntime) {
         (&b"\x0e\x07\x01\x00\x00\x00"[..], WireStop::Value(2)),
     ] {
         assert_eq!(rt; reply_fault(rt.alloc(), bytes), Some(want), "at {bytes:?}");
+    }
+}
+
+fn rows(alloc: Global, width: u8, count: usize) -> Result<Reply, OutOfMemory> {
+    let body = Body {
+        nonce: 7,
+        masked: u64::MAX,
+    };
+    let bodies = Items::from_vec(vec![in alloc; body; count]?);
+    Ok(Reply::Rows { width, bodies })
+}
+
+fn ended(how: How, table: u8) -> Reply {
+    Reply::Ended {
+        how,
+        table,
+        number: u64::MAX,
+    }
+}
+
+// Replies that a program can make, and whether some bytes give them.
+#[test]
+fn replies_that_some_bytes_give(rt: HostRuntime) {
+    let node = Body {
+        nonce: u64::MAX,
+        masked: 0,
+    };
+    for (reply, given) in [
+        (Reply::Node(node), true),
+        (Reply::Placed, true),
+        (Reply::Count(u64::MAX), true),
+        (ended(How::Began, 0), true),
+        (ended(How::Closed, 1), false),
+        (ended(How::Committed, 1), false),
+        (ended(How::Conflict, 15), true),
+        (ended(How::Installed, 1), false),
+        (ended(How::Stale, 255), true),
+        (Reply::No { code: 0, value: 3 }, true),
+        (Reply::No { code: 1, value: 1 }, false),
+        (Reply::No { code: 7, value: 0 }, true),
+        (Reply::No { code: 7, value: 9 }, false),
+        (Reply::No { code: 8, value: 9 }, true),
+        (
+            Reply::No {
+                code: 11,
+                value: u32::MAX,
+            },
+            true,
+        ),
+        (Reply::No { code: 12, value: 0 }, false),
+    ] {
+        assert_eq!(rt; is_reply(&reply), given, "at {reply:?}");
+    }
+    for (width, count, given) in [
+        (0, 0, false),
+        (1, 0, true),
+        (1, 5, true),
+        (3, 6, true),
+        (3, 7, false),
+        (8, 8, true),
+        (9, 9, false),
+    ] {
+        let reply = rows(rt.alloc(), width, count).expect(&rt, "memory");
+        assert_eq!(rt; is_reply(&reply), given, "at {width} and {count}");
     }
 }

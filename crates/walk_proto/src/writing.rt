@@ -1,30 +1,39 @@
 //! Messages as bytes.
-ghost use Rattle.std.specs.Prelude.{◌≡◌, ◌≤◌, ◌++◌, ◌∷◌, length, IfOk, IsTrue, OnOk};
+ghost use Rattle.std.specs.Prelude.{◌≡◌, ◌≤◌, ◌<◌, ◌^◌, ◌++◌, [], ◌∷◌, length, IfOk, IfSome, IsTrue, None, OnOk};
 ghost use Rattle.byteorder.specs.Endian.{big_bytes};
 ghost use Rattle.std.specs.List.{flat_map};
+ghost use Rattle.walk_proto.specs.Faults.{reply_fault, request_fault};
 ghost use Rattle.walk_proto.specs.Rules.{IsReply, IsRequest, is_asked};
+ghost use Rattle.walk_proto.specs.Shapes.{BodiesFit, ReplyFits, RequestFits};
 ghost use Rattle.walk_proto.specs.Spelling.{asked_bytes, body_bytes, columns_bytes, conds_bytes, how_byte, limit_bytes, reply_bytes, request_bytes, side_byte};
 
 use crate::messages::{Asked, How, Reply, Request};
+use crate::rules::how_byte;
 use case_tables::put_fields;
 use mope_base::{Body, Items, OutOfMemory};
 use path_code::Side;
 use std::alloc::Global;
 
-/// The bytes of a request. It must be one that some bytes give.
+/// The bytes of a request. It must be one that some bytes give. What is written has no fault, and
+/// `read_request` gives the request again.
 pub fn write_request(alloc: Global, r: &Request) -> Result<Items<u8>, OutOfMemory>
     requires { IsRequest r.now }
-    ensures { IfOk result (λ bytes. bytes ≡ request_bytes r.now) }
+    ensures spelled { IfOk result (λ bytes. bytes ≡ request_bytes r.now) }
+    ensures faultless { IfOk result (λ bytes. request_fault bytes ≡ None) }
+    ensures fits { OnOk result (RequestFits r.now) }
 {
     let mut out = Vec::new(alloc);
     put_request(&mut out, r)?;
     Ok(Items::from_vec(out))
 }
 
-/// The bytes of a reply. It must be one that some bytes give.
+/// The bytes of a reply. It must be one that some bytes give. What is written has no fault, and
+/// `read_reply` gives the reply again.
 pub fn write_reply(alloc: Global, r: &Reply) -> Result<Items<u8>, OutOfMemory>
     requires { IsReply r.now }
-    ensures { IfOk result (λ bytes. bytes ≡ reply_bytes r.now) }
+    ensures spelled { IfOk result (λ bytes. bytes ≡ reply_bytes r.now) }
+    ensures faultless { IfOk result (λ bytes. reply_fault bytes ≡ None) }
+    ensures fits { OnOk result (ReplyFits r.now) }
 {
     let mut out = Vec::new(alloc);
     put_reply(&mut out, r)?;
@@ -34,7 +43,8 @@ pub fn write_reply(alloc: Global, r: &Reply) -> Result<Items<u8>, OutOfMemory>
 #[tactic(auto, unfolding(crate::specs::Spelling::request_bytes))]
 fn put_request(out: &mut Vec<u8>, r: &Request) -> Result<(), OutOfMemory>
     requires { IsRequest r.now }
-    ensures { OnOk result (out.new.items ≡ out.old.items ++ request_bytes r.now) }
+    ensures spelled { OnOk result (out.new.items ≡ out.old.items ++ request_bytes r.now) }
+    ensures fits { OnOk result (RequestFits r.now) }
 {
     match r {
         Request::Begin => {
@@ -71,7 +81,8 @@ fn put_request(out: &mut Vec<u8>, r: &Request) -> Result<(), OutOfMemory>
 #[tactic(auto, unfolding(crate::specs::Spelling::reply_bytes), using(crate::proofs::RowsFit::rows_fit))]
 fn put_reply(out: &mut Vec<u8>, r: &Reply) -> Result<(), OutOfMemory>
     requires { IsReply r.now }
-    ensures { OnOk result (out.new.items ≡ out.old.items ++ reply_bytes r.now) }
+    ensures spelled { OnOk result (out.new.items ≡ out.old.items ++ reply_bytes r.now) }
+    ensures fits { OnOk result (ReplyFits r.now) }
 {
     match r {
         Reply::Node(body) => {
@@ -108,29 +119,18 @@ fn side_byte(side: Side) -> u8
     }
 }
 
-fn how_byte(how: How) -> u8
-    ensures { result ≡ how_byte how }
-{
-    match how {
-        How::Began => 0,
-        How::Closed => 1,
-        How::Committed => 2,
-        How::Conflict => 3,
-        How::Installed => 4,
-        How::Stale => 5,
-    }
-}
-
-#[tactic(auto, unfolding(crate::specs::Spelling::body_bytes))]
+#[tactic(auto, unfolding(crate::specs::Spelling::body_bytes, crate::specs::Shapes::BodiesFit))]
 fn put_body(out: &mut Vec<u8>, body: &Body) -> Result<(), OutOfMemory>
-    ensures { OnOk result (out.new.items ≡ out.old.items ++ body_bytes body.now) }
+    ensures spelled { OnOk result (out.new.items ≡ out.old.items ++ body_bytes body.now) }
+    ensures fits { OnOk result (BodiesFit (body.now ∷ [])) }
 {
     put_fields!(out; body.nonce, body.masked);
     Ok(())
 }
 
 fn put_bodies(out: &mut Vec<u8>, bodies: &[Body]) -> Result<(), OutOfMemory>
-    ensures { OnOk result (out.new.items ≡ out.old.items ++ flat_map body_bytes bodies.now) }
+    ensures spelled { OnOk result (out.new.items ≡ out.old.items ++ flat_map body_bytes bodies.now) }
+    ensures fits { OnOk result (BodiesFit bodies.now) }
 {
     'bodies: for body in bodies {
         put_body(out, body)?;
@@ -141,7 +141,8 @@ fn put_bodies(out: &mut Vec<u8>, bodies: &[Body]) -> Result<(), OutOfMemory>
 #[tactic(auto, unfolding(crate::specs::Spelling::asked_bytes), using(crate::proofs::AskedParts::asked_fits))]
 fn put_asked(out: &mut Vec<u8>, asked: &Asked) -> Result<(), OutOfMemory>
     requires { IsTrue (is_asked asked.now) }
-    ensures { OnOk result (out.new.items ≡ out.old.items ++ asked_bytes asked.now) }
+    ensures spelled { OnOk result (out.new.items ≡ out.old.items ++ asked_bytes asked.now) }
+    ensures fits { OnOk result (IfSome asked.now.limit (λ limit. limit < 2 ^ 64)) }
 {
     put_fields!(out; asked.table.0, asked.verb, asked.target, asked.order, asked.order_column);
     put_limit(out, asked.limit)?;
@@ -152,7 +153,8 @@ fn put_asked(out: &mut Vec<u8>, asked: &Asked) -> Result<(), OutOfMemory>
 
 #[tactic(auto, unfolding(crate::specs::Spelling::limit_bytes))]
 fn put_limit(out: &mut Vec<u8>, limit: Option<u64>) -> Result<(), OutOfMemory>
-    ensures { OnOk result (out.new.items ≡ out.old.items ++ limit_bytes limit) }
+    ensures spelled { OnOk result (out.new.items ≡ out.old.items ++ limit_bytes limit) }
+    ensures fits { OnOk result (IfSome limit (λ number. number < 2 ^ 64)) }
 {
     match limit {
         Some(number) => {

@@ -20,7 +20,6 @@ pub mod SerialLemmas
 pub mod RowLemmas
 pub mod SelectionLemmas
 pub mod FrontLemmas
-pub mod StableLemmas
 pub mod AnswerLemmas
 pub mod TableLemmas
 pub mod NumberLemmas

@@ -17,6 +17,7 @@ pub mod RebuildLemmas
 pub mod FinishLemmas
 pub mod OverLemmas
 pub mod SerialLemmas
+pub mod Taken
 pub mod RowLemmas
 pub mod SelectionLemmas
 pub mod FrontLemmas

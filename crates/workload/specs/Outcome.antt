@@ -11,7 +11,7 @@ use Rattle.workload.specs.declared.script.Verb.{Verb}
 use Rattle.workload.specs.declared.script.Verb.TheVariants as verb
 use Rattle.workload.specs.declared.script.Answer.{Answer}
 use Rattle.workload.specs.declared.script.Answer.TheVariants as answer
-use Rattle.workload.specs.PlainDatabase.{table_of, with_table, is_full, with_row, table_without}
+use Rattle.workload.specs.PlainDatabase.{table_of, with_table, is_full, with_row, row_number, table_without}
 use Rattle.workload.specs.Selection.{selected, answer_about}
 
 -- the value of a row in a column
@@ -24,7 +24,7 @@ left_by (verb.Rows columns order limit) t rows db = db
 left_by verb.Count t rows db = db
 left_by (verb.Min column) t rows db = db
 left_by (verb.Max column) t rows db = db
-left_by verb.Delete t rows db = with_table db t (table_without (table_of db t) (map (λ (row : PlainRow). row.number) rows))
+left_by verb.Delete t rows db = with_table db t (table_without (table_of db t) (map row_number rows))
 
 -- a statement is answered and leaves a database, or it is an INSERT that met a full table
 pub data Outcome : Type 0 where

@@ -36,6 +36,10 @@ unfoldable pub with_row : PlainTable → List ℕ → PlainTable
 with_row table values =
     record { rows = table.rows ++ record { number = table.next; values = values } ∷ []; next = suc table.next }
 
+-- the number of a row
+abbrev pub row_number : PlainRow → ℕ
+row_number row = row.number
+
 -- the table without the rows of these numbers; its next number stays, so that none is used again
 unfoldable pub table_without : PlainTable → List ℕ → PlainTable
-table_without table numbers = record { rows = without_rows (λ (row : PlainRow). row.number) numbers table.rows; next = table.next }
+table_without table numbers = record { rows = without_rows row_number numbers table.rows; next = table.next }

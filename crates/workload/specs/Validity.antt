@@ -93,9 +93,10 @@ numbers_inserted (piece.Txn statements rollback) = sum_by inserted_numbers state
 numbers_inserted (piece.Rebuild t column) = 0
 
 -- a session has fewer than 2^32 transactions, and fewer than 2^32 numbers in its INSERTs together
-abbrev pub IsValidScript : List Decl → List Piece → Type 0
-IsValidScript tables pieces =
-    Each (IsValidPiece tables) pieces × (length pieces < 2 ^ 32) × (sum_by numbers_inserted pieces < 2 ^ 32)
+pub record IsValidScript (tables : List Decl) (pieces : List Piece) : Type 0 where
+  pub valid : Each (IsValidPiece tables) pieces
+  pub few_pieces : length pieces < 2 ^ 32
+  pub few_numbers : sum_by numbers_inserted pieces < 2 ^ 32
 
 -- at most 16 tables, whose names differ, and at most 64 sessions
 pub record IsValid (w : Workload) : Type 0 where

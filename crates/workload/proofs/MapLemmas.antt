@@ -1,5 +1,5 @@
 -- Selection over rows that are mapped.
-use Rattle.std.proofs.Common.{◌≡◌, refl, sym, ◌∙◌, ap, ℕ, Bool, true, false, ◌&&◌, leb, eqb, cond, List, [], ◌∷◌, ◌++◌, map, flat_map, filter, take, length, Option, Some, None}
+use Rattle.std.proofs.Common.{◌≡◌, refl, ◌∙◌, ap, ℕ, Bool, true, false, ◌&&◌, leb, eqb, cond, List, [], ◌∷◌, ◌++◌, map, flat_map, filter, take, length, Option, Some, None}
 use Rattle.std.proofs.lemmas.List.{take-map, length-map}
 use Rattle.mope_base.specs.declared.numbers.ColNo.{ColNo}
 use Rattle.sql_text.specs.declared.Test.{Test}
@@ -11,7 +11,6 @@ use Rattle.workload.specs.Selection.{meets, passes, in_front, insert_ordered, or
 use Rattle.workload.specs.Laws.{KeepsColumns}
 
 module _ {A B : Type 0} (f : A → B) where
-
   front-map : (b : Bool) (x y : A) (ys rest : List A) → in_front b (f x) (f y) (map f ys) (map f rest) ≡ map f (in_front b x y ys rest)
   unfolding in_front
   front-map true x y ys rest = refl
@@ -69,7 +68,6 @@ module _ {A B : Type 0} (f : A → B) where
       ∙ cond-map (p x) x (filter p xs)
 
   module _ (at : ColNo → A → ℕ) (at2 : ColNo → B → ℕ) (keeps : KeepsColumns f at at2) where
-
     passes-map : (tests : List (ColNo × Test)) (row : A) → passes at2 tests (f row) ≡ passes at tests row
     unfolding passes
     passes-map [] row = refl

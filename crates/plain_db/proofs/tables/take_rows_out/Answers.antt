@@ -1,6 +1,5 @@
 use Rattle.std.proofs.Common.{◌∙◌, ap, length, map, filter, arith}
 use Rattle.workload.specs.declared.plain.PlainDb.{PlainDb}
-use Rattle.workload.specs.declared.plain.PlainRow.{PlainRow}
 use Rattle.workload.specs.PlainDatabase.{with_table, table_without, row_number}
 use Rattle.workload.specs.Selection.{passes}
 use Rattle.workload.specs.Outcome.{value_at}

@@ -13,11 +13,11 @@ use Rattle.workload.specs.declared.script.End.TheVariants as end
 use Rattle.workload.specs.declared.script.Piece.{Piece}
 use Rattle.workload.specs.declared.script.Workload.{Workload}
 use Rattle.workload.specs.PlainDatabase.{table_of, with_table, is_full, with_row, empty_table, empty_database}
-use Rattle.workload.specs.Selection.{meets, passes, chosen, selected, in_front, insert_ordered, ordered}
-use Rattle.workload.specs.Outcome.{answered, inserted, asked, answer_about, left_by, outcome_of, value_at}
+use Rattle.workload.specs.Selection.{meets, passes, chosen, selected, in_front, insert_ordered, ordered, answer_about}
+use Rattle.workload.specs.Outcome.{answered, inserted, asked, left_by, outcome_of, value_at}
 use Rattle.workload.specs.Transaction.{Work, going, trial_of, after_acts, after_act, after_outcome, started, is_op, with_op, table_named, work_of, wish_of, wish_after}
 use Rattle.workload.specs.Run.{Run, Turn, TurnKind, began, committed, ready, committing, number_of, position_at, with_position, moved, with_done, begun, begin_turn, names, this_or, lowest_newer, merged, stamped, committed_unless, commit_turn, turn_from, take_turn, settled_from, settled, finished_pieces, unbegun, unstamped, initial, take_turns, session_numbers, finished_session, finished_sessions, run, turns_taken}
-use Rattle.workload.specs.History.{rank_by, rank_of, comes_before, number_got, history}
+use Rattle.workload.specs.History.{rank_by, rank_of, comes_before, number_got, history_of, history}
 use Rattle.workload.specs.Report.{transaction_lines, transaction_line, end_text, plain_report_of, plain_report, next_free_nonce, report}
 use Rattle.mope_top.specs.declared.first_form.Statement.{Statement}
 use Rattle.mope_top.specs.declared.first_form.Statement.TheVariants.{Insert, Count}
@@ -335,7 +335,7 @@ ordered-transactions values place (Count low high ∷ statements) =
 -- the history of statements of the first form
 pub history-first_form : (statements : List Statement) → inserts statements ≤ 65536
     → history (run (workload_of statements) []) ≡ transactions [] 1 statements
-unfolding history final_state state_after state_with
+unfolding history history_of final_state state_after state_with
 history-first_form statements h =
     ap (λ r. history r) (run-first_form statements h) ∙ ordered-transactions [] 1 statements
 

@@ -4,7 +4,6 @@ pub mod FirstFormLines
 pub mod FirstFormLaws
 pub mod WordLemmas
 pub mod FirstRunLemmas
-pub mod SerialLemmas
 mod BatchLemmas
 pub mod ReportLines
 pub mod WalkLemmas

@@ -2,13 +2,17 @@
 -- may be nothing; then the clauses on them say nothing.
 use Rattle.std.specs.Prelude.{◌≡◌, ℕ, ◌++◌, ◌∷◌, [], ◌⊎◌, List, codes, Option}
 use Rattle.std.specs.Io.KnownBytes.{Appends, Keeps}
+use Rattle.mope_base.specs.declared.numbers.SessionNo.{SessionNo}
 use Rattle.mope_base.specs.declared.status.Status.{Status}
 use Rattle.mope_base.specs.declared.status.Status.TheVariants.{Done, Usage, Input, Memory, ReadFault, WriteFault}
 use Rattle.mope_base.specs.Faults.{Rose}
 use Rattle.mope_base.specs.ReadAll.{TakesAll, TakesExactly}
 use Rattle.mope_base.specs.WriteAll.{AppendsFront}
 use Rattle.value_cipher.specs.declared.Key.{Key}
+use Rattle.workload.specs.declared.script.Workload.{Workload}
 use Rattle.workload.specs.Report.{report}
+use Rattle.workload.specs.Run.{run, turns_taken, IsComplete}
+use Rattle.workload.specs.History.{history, Serial}
 use Rattle.mope_top.specs.FirstForm.{IsFirstForm, IsNotFirstForm}
 use Rattle.mope_top.specs.FirstRun.{workload_of}
 use Rattle.mope_top.specs.Words.{AreWords, AreNoWords}
@@ -19,11 +23,19 @@ pub record AreRight (words : List (List ℕ)) : Type 0 where
   pub key : Key
   pub words_are : AreWords words key
 
--- the text is the report of the workload that the bytes spell, with the first nonce 0, under the turns that its run takes
+-- what the report of a run prints is one history: its turns are a complete list for the workload, and its transactions, in
+-- the order in which they stand, are those that a single thread could have made
+pub record IsOneHistory (w : Workload) (turns : List SessionNo) : Type 0 where
+  pub complete : IsComplete w (turns_taken (run w turns))
+  pub serial : Serial w (run w turns) (history (run w turns))
+
+-- the text is the report of the workload that the bytes spell, with the first nonce 0, under the turns that its run takes,
+-- and what it prints is one history
 pub record Reports (bytes text : List ℕ) : Type 0 where
   pub statements : List Statement
   pub spelled : IsFirstForm bytes statements
   pub text_is : text ≡ report 0 (workload_of statements) []
+  pub one_history : IsOneHistory (workload_of statements) []
 
 -- the whole input was read, and the text is the report of what it spells
 pub record ReportsAll (old new : Option (List ℕ)) (text : List ℕ) : Type 0 where

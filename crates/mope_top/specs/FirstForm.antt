@@ -3,6 +3,7 @@
 use Rattle.std.specs.Prelude.{◌≡◌, ◌≤◌, ◌<◌, ◌^◌, ◌⊎◌, ◌++◌, ◌∷◌, [], ℕ, suc, List, length, codes}
 use Rattle.std.specs.List.{flat_map}
 use Rattle.std.specs.Fmt.{decimal}
+use Rattle.workload.specs.PlainDatabase.{row_limit}
 use Rattle.mope_top.specs.declared.first_form.Statement.{Statement}
 use Rattle.mope_top.specs.declared.first_form.Statement.TheVariants.{Insert, Count}
 
@@ -41,7 +42,7 @@ AllNumbersFit (statement ∷ statements) = NumbersFit statement × AllNumbersFit
 -- the bytes are the text of these statements, whose last line feed may be missing
 pub record IsFirstForm (bytes : List ℕ) (statements : List Statement) : Type 0 where
   pub spelled : (bytes ≡ text_of statements) ⊎ (bytes ≡ text_of statements ++ 10 ∷ [])
-  pub few : inserts statements ≤ 65536
+  pub few : inserts statements ≤ row_limit
   pub short : length bytes ≤ 67108864
   pub numbers : AllNumbersFit statements
 

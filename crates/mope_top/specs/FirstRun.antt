@@ -1,6 +1,6 @@
 -- The workload of statements of the first form, and its history told statement by statement: it has one session, whose
 -- transactions never meet a conflict or a full table. The general definitions of runs and reports stand in `workload`.
-use Rattle.std.specs.Prelude.{ℕ, suc, ◌≤◌, Bool, true, false, ◌&&◌, leb, List, [], ◌∷◌, ◌++◌, map, flat_map, replicate, codes}
+use Rattle.std.specs.Prelude.{ℕ, suc, Bool, true, false, ◌&&◌, leb, List, [], ◌∷◌, ◌++◌, map, flat_map, replicate, codes}
 use Rattle.mope_base.specs.declared.numbers.TableNo.{TableNo}
 use Rattle.mope_base.specs.declared.numbers.ColNo.{ColNo}
 use Rattle.mope_base.specs.declared.numbers.SessionNo.{SessionNo}
@@ -17,13 +17,10 @@ use Rattle.workload.specs.declared.script.Piece.TheVariants as piece
 use Rattle.workload.specs.declared.script.Verb.TheVariants as verb
 use Rattle.workload.specs.declared.script.Workload.{Workload}
 use Rattle.workload.specs.Report.{line, numbered, turns_line, transaction_lines}
-use Rattle.workload.specs.Run.{run}
-use Rattle.workload.specs.History.{history, Serial}
 use Rattle.mope_top.specs.declared.first_form.Statement.{Statement}
 use Rattle.mope_top.specs.declared.first_form.Statement.TheVariants.{Insert, Count}
 use Rattle.mope_top.specs.declared.first_form.FormAnswer.{FormAnswer}
 use Rattle.mope_top.specs.declared.first_form.FormAnswer.TheVariants.{Inserted, Counted}
-use Rattle.mope_top.specs.FirstForm.{inserts}
 
 -- its one table, one column and one session
 abbrev pub the_table : TableNo
@@ -92,9 +89,3 @@ report_of answers =
     turns_line (replicate (turns_of answers) the_session)
     ++ flat_map (transaction_lines (workload_of [])) (transactions_of 0 1 answers)
     ++ line (numbered (codes "nonce") 4294967296)
-
--- the history of the run of a workload of the first form is serial
-abbrev pub FirstFormIsSerial : Type 0
-FirstFormIsSerial =
-    (statements : List Statement) → inserts statements ≤ 65536
-    → Serial (workload_of statements) (run (workload_of statements) []) (history (run (workload_of statements) []))

@@ -28,7 +28,8 @@ pub fn mope_batch<S: Source, K: Sink>(
     input: &mut S,
     out: &mut K,
 ) -> Status
-    // On Done the bytes appended to `out` are the report of the workload that the whole input spells.
+    // On Done the bytes appended to `out` are the report of the workload that the whole input spells: complete turns, and
+    // one history of one thread.
     ensures headline { result ≡ Status.Done
         → Headline (texts words.now) (S.left input.old) (S.left input.new) (K.written out.old) (K.written out.new) }
     ensures ends { Ends result (texts words.now)

@@ -1,5 +1,6 @@
 //! The run of the statements over the sealed items.
 ghost use Rattle.std.specs.Prelude.{◌≡◌, ℕ, ◌+◌, ◌≤◌, [], ◌∷◌, IfOk};
+ghost use Rattle.workload.specs.PlainDatabase.{row_limit};
 ghost use Rattle.mope_top.specs.FirstForm.{inserts};
 ghost use Rattle.mope_top.specs.FirstRun.{answers_of};
 ghost use Rattle.mope_top.specs.SealedItems.{IsSound, Answered};
@@ -17,7 +18,7 @@ pub(crate) fn run_statements(
     key: &Key,
     statements: &[Statement],
 ) -> Result<Vec<FormAnswer>, OutOfMemory>
-    requires { inserts statements.now ≤ 65536 }
+    requires { inserts statements.now ≤ row_limit }
     ensures { IfOk result (λ answers. answers.items ≡ answers_of [] statements.now) }
 {
     let mut server = SealedItems::new(alloc);
@@ -36,7 +37,7 @@ fn answer_one(
     statement: Statement,
 ) -> Result<FormAnswer, OutOfMemory>
     requires sound { IsSound key.now.bytes (items_of server.old) server.old.inserted }
-    requires room { server.old.inserted + inserts (statement ∷ []) ≤ 65536 }
+    requires room { server.old.inserted + inserts (statement ∷ []) ≤ row_limit }
     ensures { IfOk result (λ answer. Answered key.now.bytes statement (items_of server.old) server.old.inserted (items_of server.new) server.new.inserted answer) }
 {
     match statement {

@@ -2,6 +2,7 @@
 ghost use Rattle.std.specs.Prelude.{◌≡◌, ℕ, ◌+◌, ◌<◌, ◌≤◌, [], OnOk};
 ghost use Rattle.tree_model.specs.Places.{IsIncreasing, place};
 ghost use Rattle.tree_model.specs.Trees.{inorder};
+ghost use Rattle.workload.specs.PlainDatabase.{row_limit};
 ghost use Rattle.mope_top.specs.SealedItems.{values_of, rows_within, items_with, IsSound};
 ghost use Rattle.mope_top.specs.SealedServer.{items_of};
 
@@ -38,7 +39,7 @@ impl SealedItems {
     /// item at its place. After want of memory the rows are lost.
     pub(crate) fn insert(&mut self, key: &Key, value: u64) -> Result<(), OutOfMemory>
         requires sound { IsSound key.now.bytes (items_of self.old) self.old.inserted }
-        requires room { self.old.inserted < 65536 }
+        requires room { self.old.inserted < row_limit }
         ensures items { OnOk result (items_of self.new ≡ items_with key.now.bytes self.old.inserted value (items_of self.old)) }
         ensures inserted { OnOk result (self.new.inserted ≡ self.old.inserted + 1) }
     {

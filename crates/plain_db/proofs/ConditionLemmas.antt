@@ -1,8 +1,9 @@
 -- Workloads and databases that were tested part by part.
-use Rattle.std.proofs.Common.{◌≡◌, sym, ap, ◌∙◌, subst, ℕ, ◌+◌, ◌<◌, ◌≤◌, ◌^◌, Bool, List, [], ◌∷◌, map, drop, length, get_or, arith, add-one}
+use Rattle.std.proofs.Common.{◌≡◌, refl, sym, ap, ◌∙◌, subst, ℕ, ◌+◌, ◌<◌, ◌≤◌, ◌^◌, Bool, List, [], ◌∷◌, map, drop, length, get_or, codes, lit≤, arith, add-one}
 use Rattle.std.proofs.lemmas.List.{drop_more, drop_all, get_or_past, get_or_default, get_or-map, length-map}
 use Rattle.mope_base.specs.declared.numbers.TableNo.{TableNo}
 use Rattle.sql_text.specs.declared.Name.{Name}
+use Rattle.sql_text.specs.Words.{IsName, keyword_of, keywords}
 use Rattle.workload.specs.declared.plain.PlainRow.{PlainRow}
 use Rattle.workload.specs.declared.plain.PlainTable.{PlainTable}
 use Rattle.workload.specs.declared.plain.PlainDb.{PlainDb}
@@ -118,3 +119,26 @@ answerable db statement t tables table rows named e within is f increase narrow 
       numbered = subst (λ (n : TableNo). IsNumbered (get_or db.tables n.0 empty_table)) named (subst IsNumbered same numbered);
       narrow = narrow;
     }
+
+-- the names that the tests' workloads have
+
+table_named_t : IsName (codes "t")
+unfolding keyword_of keywords
+table_named_t = record { letter = refl; word = refl; short = lit≤ tt; free = refl }
+
+column_named_a : IsName (codes "a")
+unfolding keyword_of keywords
+column_named_a = record { letter = refl; word = refl; short = lit≤ tt; free = refl }
+
+column_named_b : IsName (codes "b")
+unfolding keyword_of keywords
+column_named_b = record { letter = refl; word = refl; short = lit≤ tt; free = refl }
+
+pub name-t : (bytes : List ℕ) → bytes ≡ codes "t" → IsName bytes
+name-t bytes is = subst IsName (sym is) table_named_t
+
+pub name-a : (bytes : List ℕ) → bytes ≡ codes "a" → IsName bytes
+name-a bytes is = subst IsName (sym is) column_named_a
+
+pub name-b : (bytes : List ℕ) → bytes ≡ codes "b" → IsName bytes
+name-b bytes is = subst IsName (sym is) column_named_b

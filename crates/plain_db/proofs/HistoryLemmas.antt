@@ -4,7 +4,7 @@ use Rattle.std.proofs.lemmas.Bool.Decides.{nat_tests}
 use Rattle.std.specs.Ordering.{ordering_then}
 use Rattle.workload.specs.declared.script.DoneTxn.{DoneTxn}
 use Rattle.workload.specs.History.{rank_of, comes_before}
-use Rattle.plain_db.proofs.StableLemmas.{IsOrder}
+use Rattle.workload.proofs.StableSort.{IsOrder}
 
 -- the order by three numbers
 abbrev in_turn : (r s p q t o : ℕ) → Bool

@@ -17,10 +17,10 @@ pub mod RebuildLemmas
 pub mod FinishLemmas
 pub mod OverLemmas
 pub mod SerialLemmas
+pub mod Taken
 pub mod RowLemmas
 pub mod SelectionLemmas
 pub mod FrontLemmas
-pub mod StableLemmas
 pub mod AnswerLemmas
 pub mod TableLemmas
 pub mod NumberLemmas

@@ -11,8 +11,8 @@ use Rattle.workload.specs.declared.script.Answer.{Answer}
 use Rattle.workload.specs.declared.script.Verb.{Verb}
 use Rattle.workload.specs.declared.script.Verb.TheVariants as verb
 use Rattle.mope_base.specs.Lists.{Each}
-use Rattle.workload.specs.PlainDatabase.{empty_table, table_of, with_table, is_full, with_row, kept_unless, without_row, without_rows, table_without}
-use Rattle.workload.specs.Selection.{selected}
+use Rattle.workload.specs.PlainDatabase.{empty_table, table_of, with_table, is_full, with_row, table_without, row_number}
+use Rattle.workload.specs.Selection.{selected, kept_unless, without_row, without_rows}
 use Rattle.workload.specs.Outcome.{Outcome, full, answered, outcome_of, value_at}
 use Rattle.workload.specs.Transaction.{Work, going, work_of, table_named, after_outcome, after_act}
 use Rattle.plain_db.specs.Answerable.{IncreaseBelow, IsNumbered}
@@ -37,18 +37,18 @@ unfolding IncreaseBelow kept_unless
 kept-increase true first next row rows low h = increase-lower first (suc row.number) next rows (omega (arith, low)) h
 kept-increase false first next row rows low h = (low, h)
 
-without_row-increase : (n first next : ℕ) (rows : List PlainRow) → IncreaseBelow first next rows → IncreaseBelow first next (without_row n rows)
+without_row-increase : (n first next : ℕ) (rows : List PlainRow) → IncreaseBelow first next rows → IncreaseBelow first next (without_row row_number n rows)
 unfolding IncreaseBelow without_row
 without_row-increase n first next [] h = h
 without_row-increase n first next (row ∷ rows) h =
-    kept-increase (eqb row.number n) first next row (without_row n rows) h.0 (without_row-increase n (suc row.number) next rows h.1)
+    kept-increase (eqb row.number n) first next row (without_row row_number n rows) h.0 (without_row-increase n (suc row.number) next rows h.1)
 
 without_rows-increase : (numbers : List ℕ) (first next : ℕ) (rows : List PlainRow) → IncreaseBelow first next rows
-    → IncreaseBelow first next (without_rows numbers rows)
+    → IncreaseBelow first next (without_rows row_number numbers rows)
 unfolding without_rows
 without_rows-increase [] first next rows h = h
 without_rows-increase (n ∷ numbers) first next rows h =
-    without_rows-increase numbers first next (without_row n rows) (without_row-increase n first next rows h)
+    without_rows-increase numbers first next (without_row row_number n rows) (without_row-increase n first next rows h)
 
 -- what a statement leaves of its table is numbered in order
 unfoldable NumberedAfter : Option (Answer × PlainTable) → Type 0
@@ -66,7 +66,7 @@ left-numbered (verb.Rows columns order limit) rows table h = h
 left-numbered verb.Count rows table h = h
 left-numbered (verb.Min column) rows table h = h
 left-numbered (verb.Max column) rows table h = h
-left-numbered verb.Delete rows table h = without_rows-increase (map (λ (row : PlainRow). row.number) rows) 0 table.next table.rows h
+left-numbered verb.Delete rows table h = without_rows-increase (map row_number rows) 0 table.next table.rows h
 
 outcome-numbered : (table : PlainTable) (statement : Act) → IsNumbered table → NumberedAfter (outcome_on table statement)
 unfolding outcome_on ask_on NumberedAfter

@@ -9,7 +9,7 @@ use Rattle.workload.specs.declared.script.Piece.{Piece}
 use Rattle.workload.specs.declared.script.Workload.{Workload}
 use Rattle.workload.specs.PlainDatabase.{empty_table, empty_database}
 use Rattle.workload.specs.Selection.{ordered}
-use Rattle.workload.specs.History.{comes_before, history}
+use Rattle.workload.specs.History.{comes_before, history_of, history}
 use Rattle.workload.specs.Run.{Run, Stamps, unstamped, number_of, run, turns_taken, Position, ready, committing, installing, initial, position_at, turn_from, take_turn, take_turns, settled, unbegun, finished_pieces, finished_session, finished_sessions, session_numbers}
 use Rattle.plain_db.specs.declared.state.Place.{Place}
 use Rattle.plain_db.specs.declared.state.Standing.{Standing}
@@ -239,5 +239,5 @@ gives-turns w turns state h = h.taken
 
 pub gives-history : (w : Workload) (turns : List SessionNo) (state : State) (sorted : List DoneTxn) → ShowsRun w state (run w turns)
     → sorted ≡ ordered comes_before state.done → sorted ≡ history (run w turns)
-unfolding history
+unfolding history history_of
 gives-history w turns state sorted h is = is ∙ ap (λ l. ordered comes_before l) h.done

@@ -8,7 +8,7 @@ use Rattle.workload.specs.declared.script.Workload.{Workload}
 use Rattle.workload.specs.PlainDatabase.{empty_database}
 use Rattle.workload.specs.Selection.{ordered}
 use Rattle.workload.specs.Run.{Run, ready, number_of, version_of, initial, take_turns, finished_sessions, session_numbers, run}
-use Rattle.workload.specs.History.{number_got, rank_of, comes_before, history, kept_if, IsVersion, Repeats, database_after, EachRepeats, script_of, places_of, places_from, EachHasCause, Serial}
+use Rattle.workload.specs.History.{number_got, rank_of, comes_before, history_of, history, kept_if, IsVersion, Repeats, database_after, EachRepeats, script_of, places_of, places_from, EachHasCause, Serial}
 use Rattle.mope_base.specs.Lists.{Each}
 use Rattle.plain_db.proofs.EachLemmas.{each-weaker, each-ordered}
 use Rattle.plain_db.proofs.RankLemmas.{sorted-ordered, places-ordered}
@@ -64,7 +64,7 @@ whole_script w r s holds over =
     ∙ ap (λ l. places_from 1 l) (sym (session.script ∙ ap (λ l. session.finished ++ l) session.doing ∙ append-nil session.finished))
 
 serial_by : (w : Workload) (r : Run) → RunHolds w r → ((s : ℕ) → IsReady r.positions s []) → Serial w r (history r)
-unfolding history
+unfolding history history_of
 serial_by w r holds over =
     let txns : Each (TxnHolds w r) (ordered comes_before r.done) = each-ordered (TxnHolds w r) comes_before r.done holds.txns in
     record {

@@ -51,7 +51,7 @@ place-count w state r h reached = h.places.sizes ∙ (reached_holds w r reached)
 
 empty-script : (tables : List Decl) → IsValidScript tables []
 unfolding Each
-empty-script tables = (tt, let h : 0 < 2 ^ 32 = omega arith in h)
+empty-script tables = let h : 0 < 2 ^ 32 = omega arith in record { valid = tt; few_pieces = h; few_numbers = h }
 
 pub script-valid : (w : Workload) (k : ℕ) → IsValid w → IsValidScript w.tables (get_or w.sessions k [])
 script-valid w k valid = each-get (IsValidScript w.tables) w.sessions k [] valid.scripts (empty-script w.tables)
@@ -74,7 +74,7 @@ present-valid : (w : Workload) (r : Run) (k : ℕ) (p : Position) (present : Pie
 unfolding script_of
 present-valid w r k p present rest session pieces valid =
     each-middle (IsValidPiece w.tables) session.finished present rest
-    (subst (Each (IsValidPiece w.tables)) (session.script ∙ ap (λ l. session.finished ++ l) pieces) (script-valid w k valid).0)
+    (subst (Each (IsValidPiece w.tables)) (session.script ∙ ap (λ l. session.finished ++ l) pieces) (script-valid w k valid).valid)
 
 standing-holds : (w : Workload) (r : Run) (k ended : ℕ) (stands : Standing) (p : Position) → IsValid w → IsReached w r → SessionHolds w r (suc k) p
     → ShowsStanding (get_or w.sessions k []) ended stands p → StandingFits (length w.tables) ended stands
@@ -87,14 +87,14 @@ standing-holds w r k ended (standing.Committing base tried) p valid reached sess
     let copy : length is.work.copy.tables ≡ size (version_of r base) = (copy-numbered w r (suc k) (suc ended) base is.work _ here (reached_fits w r reached)).1 in
     let store : StoreHolds w r = (reached_holds w r reached).store in (
       ap (λ (db : PlainDb). length db.tables) is.shows.copy ∙ copy ∙ store.sizes base ∙ table-count w r store,
-      omega (arith, unended w r k ended _ (piece.Txn doing.statements doing.rollback) _ here doing.is refl, (script-valid w k valid).1),
+      omega (arith, unended w r k ended _ (piece.Txn doing.statements doing.rollback) _ here doing.is refl, (script-valid w k valid).few_pieces),
     )
 standing-holds w r k ended (standing.Installing base t) p valid reached session is =
     let here : SessionHolds w r (suc k) (installing (suc ended) base t is.column (drop (suc ended) (get_or w.sessions k []))) =
     subst (λ q. SessionHolds w r (suc k) q) is.stands session in
     let doing : IsRebuilding r base t is.column (drop (suc ended) (get_or w.sessions k [])) here.pieces = here.doing in (
       (present-valid w r k _ (piece.Rebuild t is.column) _ here doing.is valid).0,
-      omega (arith, unended w r k ended _ (piece.Rebuild t is.column) _ here doing.is refl, (script-valid w k valid).1),
+      omega (arith, unended w r k ended _ (piece.Rebuild t is.column) _ here doing.is refl, (script-valid w k valid).few_pieces),
     )
 
 pub state-fits : (w : Workload) (state : State) (r : Run) → IsValid w → ShowsRun w state r → IsReached w r → state.version < 2 ^ 63

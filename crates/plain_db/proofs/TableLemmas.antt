@@ -6,7 +6,8 @@ use Rattle.mope_base.specs.declared.numbers.TableNo.{TableNo}
 use Rattle.workload.specs.declared.plain.PlainRow.{PlainRow}
 use Rattle.workload.specs.declared.plain.PlainTable.{PlainTable}
 use Rattle.workload.specs.declared.plain.PlainDb.{PlainDb}
-use Rattle.workload.specs.PlainDatabase.{table_of, with_table, is_full, kept_unless, without_row, without_rows}
+use Rattle.workload.specs.Selection.{kept_unless, without_row, without_rows}
+use Rattle.workload.specs.PlainDatabase.{table_of, with_table, is_full, row_number}
 use Rattle.plain_db.specs.Answerable.{IncreaseBelow}
 use Rattle.plain_db.proofs.TableOutcomes.{with_table-same}
 use Rattle.mope_base.specs.Lists.{Each}
@@ -35,27 +36,27 @@ increase-above first next n [] below h = tt
 increase-above first next n (row ∷ rows) below h =
     (omega (arith, h.0), increase-above (suc row.number) next n rows (omega (arith, h.0)) h.1)
 
-without_row-above : (n : ℕ) (rows : List PlainRow) → Each (λ (row : PlainRow). n < row.number) rows → without_row n rows ≡ rows
+without_row-above : (n : ℕ) (rows : List PlainRow) → Each (λ (row : PlainRow). n < row.number) rows → without_row row_number n rows ≡ rows
 unfolding Each without_row kept_unless
 without_row-above n [] h = refl
 without_row-above n (row ∷ rows) h =
-    ap (λ b. kept_unless b row (without_row n rows)) (ne_eqb row.number n (λ e. omega (arith, e, h.0)))
+    ap (λ b. kept_unless b row (without_row row_number n rows)) (ne_eqb row.number n (λ e. omega (arith, e, h.0)))
     ∙ ap (λ l. row ∷ l) (without_row-above n rows h.1)
 
 without_rows-first : (n : ℕ) (numbers : List ℕ) (row : PlainRow) (rows : List PlainRow) → row.number ≡ n
-    → Each (λ (r : PlainRow). n < r.number) rows → without_rows (n ∷ numbers) (row ∷ rows) ≡ without_rows numbers rows
+    → Each (λ (r : PlainRow). n < r.number) rows → without_rows row_number (n ∷ numbers) (row ∷ rows) ≡ without_rows row_number numbers rows
 unfolding without_rows without_row kept_unless
 without_rows-first n numbers row rows e above =
-    ap (λ b. without_rows numbers (kept_unless b row (without_row n rows))) (eq-eqb row.number n e)
-    ∙ ap (λ l. without_rows numbers l) (without_row-above n rows above)
+    ap (λ b. without_rows row_number numbers (kept_unless b row (without_row row_number n rows))) (eq-eqb row.number n e)
+    ∙ ap (λ l. without_rows row_number numbers l) (without_row-above n rows above)
 
 without_rows-kept : (numbers : List ℕ) (row : PlainRow) (rows : List PlainRow) → Each (λ (n : ℕ). row.number < n) numbers
-    → without_rows numbers (row ∷ rows) ≡ row ∷ without_rows numbers rows
+    → without_rows row_number numbers (row ∷ rows) ≡ row ∷ without_rows row_number numbers rows
 unfolding Each without_rows without_row kept_unless
 without_rows-kept [] row rows h = refl
 without_rows-kept (n ∷ numbers) row rows h =
-    ap (λ b. without_rows numbers (kept_unless b row (without_row n rows))) (ne_eqb row.number n (λ e. omega (arith, e, h.0)))
-    ∙ without_rows-kept numbers row (without_row n rows) h.1
+    ap (λ b. without_rows row_number numbers (kept_unless b row (without_row row_number n rows))) (ne_eqb row.number n (λ e. omega (arith, e, h.0)))
+    ∙ without_rows-kept numbers row (without_row row_number n rows) h.1
 
 filter-each : (P : PlainRow → Type 0) (p : PlainRow → Bool) (rows : List PlainRow) → Each P rows → Each P (filter p rows)
 unfolding Each
@@ -67,25 +68,25 @@ filter-each P p (row ∷ rows) h =
     ]
 
 numbers-above : (n : ℕ) (rows : List PlainRow) → Each (λ (row : PlainRow). n < row.number) rows
-    → Each (λ (k : ℕ). n < k) (map (λ (row : PlainRow). row.number) rows)
+    → Each (λ (k : ℕ). n < k) (map row_number rows)
 unfolding Each
 numbers-above n [] h = tt
 numbers-above n (row ∷ rows) h = (h.0, numbers-above n rows h.1)
 
 -- to take out the numbers of the rows that pass is to keep the rows that don't
 pub without-passing : (p : PlainRow → Bool) (first next : ℕ) (rows : List PlainRow) → IncreaseBelow first next rows
-    → filter (λ row. not (p row)) rows ≡ without_rows (map (λ (row : PlainRow). row.number) (filter p rows)) rows
+    → filter (λ row. not (p row)) rows ≡ without_rows row_number (map row_number (filter p rows)) rows
 unfolding IncreaseBelow without_rows
 without-passing p first next [] h = refl
 without-passing p first next (row ∷ rows) h =
     let above : Each (λ (r : PlainRow). row.number < r.number) rows = increase-above (suc row.number) next row.number rows (omega arith) h.1 in
-    let rest : filter (λ row. not (p row)) rows ≡ without_rows (map (λ (row : PlainRow). row.number) (filter p rows)) rows =
+    let rest : filter (λ row. not (p row)) rows ≡ without_rows row_number (map row_number (filter p rows)) rows =
     without-passing p (suc row.number) next rows h.1 in
     elim (p row) as (λ b.
     cond (not b) (row ∷ filter (λ row. not (p row)) rows) (filter (λ row. not (p row)) rows)
-    ≡ without_rows (map (λ (row : PlainRow). row.number) (cond b (row ∷ filter p rows) (filter p rows))) (row ∷ rows)) [
-      | true ↦ rest ∙ sym (without_rows-first row.number (map (λ (row : PlainRow). row.number) (filter p rows)) row rows refl above)
+    ≡ without_rows row_number (map row_number (cond b (row ∷ filter p rows) (filter p rows))) (row ∷ rows)) [
+      | true ↦ rest ∙ sym (without_rows-first row.number (map row_number (filter p rows)) row rows refl above)
       | false ↦
           ap (λ l. row ∷ l) rest
-          ∙ sym (without_rows-kept (map (λ (row : PlainRow). row.number) (filter p rows)) row rows (numbers-above row.number (filter p rows) (filter-each _ p rows above)))
+          ∙ sym (without_rows-kept (map row_number (filter p rows)) row rows (numbers-above row.number (filter p rows) (filter-each _ p rows above)))
     ]

@@ -13,9 +13,9 @@ use Rattle.workload.specs.declared.script.Verb.{Verb}
 use Rattle.workload.specs.declared.script.Verb.TheVariants as verb
 use Rattle.workload.specs.declared.script.Answer.{Answer}
 use Rattle.workload.specs.declared.script.Answer.TheVariants as answer
-use Rattle.workload.specs.PlainDatabase.{empty_table, table_of, with_table, is_full, with_row, without_rows, table_without}
-use Rattle.workload.specs.Selection.{selected}
-use Rattle.workload.specs.Outcome.{Outcome, full, answered, answer_about, left_by, inserted, asked, outcome_of, value_at}
+use Rattle.workload.specs.PlainDatabase.{empty_table, table_of, with_table, is_full, with_row, table_without, row_number}
+use Rattle.workload.specs.Selection.{selected, answer_about, without_rows}
+use Rattle.workload.specs.Outcome.{Outcome, full, answered, left_by, inserted, asked, outcome_of, value_at}
 use Rattle.workload.specs.Transaction.{table_named, is_op}
 
 -- the table at a place
@@ -85,10 +85,10 @@ left_on (verb.Rows columns order limit) rows table = table
 left_on verb.Count rows table = table
 left_on (verb.Min column) rows table = table
 left_on (verb.Max column) rows table = table
-left_on verb.Delete rows table = table_without table (map (λ (row : PlainRow). row.number) rows)
+left_on verb.Delete rows table = table_without table (map row_number rows)
 
 unfoldable pub ask_on : Ask → List PlainRow → PlainTable → Option (Answer × PlainTable)
-ask_on ask rows table = Some (answer_about ask.verb rows, left_on ask.verb rows table)
+ask_on ask rows table = Some (answer_about value_at ask.verb rows, left_on ask.verb rows table)
 
 unfoldable pub outcome_on : PlainTable → Act → Option (Answer × PlainTable)
 outcome_on table (act.Insert t values) = insert_on (is_full table) table values
@@ -121,7 +121,7 @@ unfolding outcome_of asked put_back outcome_on table_named ask_on
 outcome-table db (act.Insert t values) = insert-put_back (is_full (table_of db t)) db t values
 outcome-table db (act.Ask ask) =
     let rows : List PlainRow = selected value_at ask (table_of db ask.table).rows in
-    ap (λ d. answered (answer_about ask.verb rows) d) (left_by-on ask.verb db ask.table rows)
+    ap (λ d. answered (answer_about value_at ask.verb rows) d) (left_by-on ask.verb db ask.table rows)
 
 -- what is no op leaves the table
 unfoldable pub KeptUnlessOp : PlainTable → Option (Answer × PlainTable) → Type 0
@@ -133,7 +133,7 @@ unfolding KeptUnlessOp insert_on is_op
 insert_kept true table values = tt
 insert_kept false table values = λ e. absurd (true≢false e)
 
-ask_kept : (v : Verb) (rows : List PlainRow) (table : PlainTable) → is_op (answer_about v rows) ≡ false → left_on v rows table ≡ table
+ask_kept : (v : Verb) (rows : List PlainRow) (table : PlainTable) → is_op (answer_about value_at v rows) ≡ false → left_on v rows table ≡ table
 unfolding left_on answer_about is_op table_without without_rows
 ask_kept (verb.Rows columns order limit) rows table e = refl
 ask_kept verb.Count rows table e = refl
@@ -141,7 +141,7 @@ ask_kept (verb.Min column) rows table e = refl
 ask_kept (verb.Max column) rows table e = refl
 ask_kept verb.Delete rows table e =
     let none : rows ≡ [] = nil_from_length rows (omega (arith, ltb-false 0 (length rows) e)) in
-    ap (λ (r : List PlainRow). table_without table (map (λ (row : PlainRow). row.number) r)) none
+    ap (λ (r : List PlainRow). table_without table (map row_number r)) none
 
 pub kept_unless_op : (table : PlainTable) (statement : Act) → KeptUnlessOp table (outcome_on table statement)
 unfolding outcome_on KeptUnlessOp ask_on

@@ -2,8 +2,8 @@
 
 ghost use Rattle.std.specs.Prelude.{◌≡◌, ◌<◌, length, Some, None, IfOk, OnErr};
 ghost use Rattle.workload.specs.PlainDatabase.{table_of, is_full};
-ghost use Rattle.workload.specs.Selection.{selected};
-ghost use Rattle.workload.specs.Outcome.{value_at, answer_about, left_by, inserted, answered, outcome_of};
+ghost use Rattle.workload.specs.Selection.{selected, answer_about};
+ghost use Rattle.workload.specs.Outcome.{value_at, left_by, inserted, answered, outcome_of};
 ghost use Rattle.plain_db.specs.Answerable.{IsAnswerable, IsNarrow, IsNumbered, outcome_shown};
 
 use crate::copying::copied;
@@ -39,7 +39,7 @@ fn insert_answer(
 fn ask_answer(alloc: Global, db: &PlainDb, ask: &Ask) -> Result<Answer, OutOfMemory>
     requires is_there { ask.now.table.0 < length db.now.tables }
     requires narrow { IsNarrow ask.now.verb }
-    ensures { IfOk result (λ a. a ≡ answer_about ask.now.verb (selected value_at ask.now (table_of db.now ask.now.table).rows)) }
+    ensures { IfOk result (λ a. a ≡ answer_about value_at ask.now.verb (selected value_at ask.now (table_of db.now ask.now.table).rows)) }
 {
     let rows = db.tables.as_slice()[ask.table.0 as usize].rows.as_slice();
     let positions = chosen_rows(alloc, ask, rows)?;

@@ -1,8 +1,8 @@
 //! Which rows of a table a statement is about, by their positions.
 
 ghost use Rattle.std.specs.Prelude.{◌≡◌, ◌++◌, ◌∷◌, [], filter, IfOk, OnOk, if◌then◌else◌};
-ghost use Rattle.workload.specs.Selection.{meets, passes};
-ghost use Rattle.workload.specs.Outcome.{value_at, values_at};
+ghost use Rattle.workload.specs.Selection.{meets, passes, values_at};
+ghost use Rattle.workload.specs.Outcome.{value_at};
 ghost use Rattle.plain_db.specs.Positions.{row_at, rows_at};
 
 use mope_base::{ColNo, OutOfMemory};

@@ -40,10 +40,14 @@ unfoldable pub comes_before : DoneTxn → DoneTxn → Bool
 comes_before a b =
     ltb (rank_of a) (rank_of b) || (eqb (rank_of a) (rank_of b) && (ltb a.session.0 b.session.0 || (eqb a.session.0 b.session.0 && leb a.place b.place)))
 
--- the finished transactions in the order of the history: for each version n from 0 on, those that began on n and got no
+-- finished transactions in the order of the history: for each version n from 0 on, those that began on n and got no
 -- number, by session and place, and then the one that made n + 1
+unfoldable pub history_of : List DoneTxn → List DoneTxn
+history_of done = ordered comes_before done
+
+-- the history of a run
 unfoldable pub history : Run → List DoneTxn
-history r = ordered comes_before r.done
+history r = history_of r.done
 
 -- the transaction of a session's script at a place, from 1
 unfoldable pub piece_at : Workload → SessionNo → ℕ → Piece

@@ -6,4 +6,5 @@ pub mod Run
 pub mod History
 pub mod Report
 pub mod Validity
+pub mod Laws
 pub mod Examples

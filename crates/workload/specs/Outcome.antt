@@ -1,5 +1,5 @@
 -- What one statement answers on a plain database, and what it leaves. The definition is our own.
-use Rattle.std.specs.Prelude.{ℕ, Bool, true, false, List, [], ◌∷◌, map, length, get_or, flat_map, Option, Some, None}
+use Rattle.std.specs.Prelude.{ℕ, Bool, true, false, List, map, get_or}
 use Rattle.mope_base.specs.declared.numbers.ColNo.{ColNo}
 use Rattle.mope_base.specs.declared.numbers.TableNo.{TableNo}
 use Rattle.workload.specs.declared.plain.PlainRow.{PlainRow}
@@ -11,29 +11,12 @@ use Rattle.workload.specs.declared.script.Verb.{Verb}
 use Rattle.workload.specs.declared.script.Verb.TheVariants as verb
 use Rattle.workload.specs.declared.script.Answer.{Answer}
 use Rattle.workload.specs.declared.script.Answer.TheVariants as answer
-use Rattle.workload.specs.PlainDatabase.{table_of, with_table, is_full, with_row, table_without}
-use Rattle.workload.specs.Selection.{selected}
+use Rattle.workload.specs.PlainDatabase.{table_of, with_table, is_full, with_row, row_number, table_without}
+use Rattle.workload.specs.Selection.{selected, answer_about}
 
 -- the value of a row in a column
 unfoldable pub value_at : ColNo → PlainRow → ℕ
 value_at column row = get_or row.values column.0 0
-
--- the values of a row in these columns
-unfoldable pub values_at : List ColNo → PlainRow → List ℕ
-values_at columns row = map (λ column. value_at column row) columns
-
--- the value of the first row in a column, if there is a row
-unfoldable pub first_value : ColNo → List PlainRow → Option ℕ
-first_value column [] = None
-first_value column (row ∷ rows) = Some (value_at column row)
-
--- the answer of a verb about these rows
-unfoldable pub answer_about : Verb → List PlainRow → Answer
-answer_about (verb.Rows columns order limit) rows = answer.Rows (length columns) (flat_map (values_at columns) rows)
-answer_about verb.Count rows = answer.Count (length rows)
-answer_about (verb.Min column) rows = answer.Min (first_value column rows)
-answer_about (verb.Max column) rows = answer.Max (first_value column rows)
-answer_about verb.Delete rows = answer.Deleted (length rows)
 
 -- the database after a verb about these rows of a table: DELETE takes them out, the others change nothing
 unfoldable pub left_by : Verb → TableNo → List PlainRow → PlainDb → PlainDb
@@ -41,7 +24,7 @@ left_by (verb.Rows columns order limit) t rows db = db
 left_by verb.Count t rows db = db
 left_by (verb.Min column) t rows db = db
 left_by (verb.Max column) t rows db = db
-left_by verb.Delete t rows db = with_table db t (table_without (table_of db t) (map (λ (row : PlainRow). row.number) rows))
+left_by verb.Delete t rows db = with_table db t (table_without (table_of db t) (map row_number rows))
 
 -- a statement is answered and leaves a database, or it is an INSERT that met a full table
 pub data Outcome : Type 0 where
@@ -55,7 +38,7 @@ inserted false db t values = answered answer.Inserted (with_table db t (with_row
 
 -- a statement that asks, about these rows
 unfoldable pub asked : PlainDb → Ask → List PlainRow → Outcome
-asked db ask rows = answered (answer_about ask.verb rows) (left_by ask.verb ask.table rows db)
+asked db ask rows = answered (answer_about value_at ask.verb rows) (left_by ask.verb ask.table rows db)
 
 -- what a statement does
 unfoldable pub outcome_of : PlainDb → Act → Outcome

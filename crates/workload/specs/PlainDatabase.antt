@@ -1,10 +1,11 @@
 -- The plain database: per table its rows in clear. The definition is our own.
-use Rattle.std.specs.Prelude.{ℕ, suc, ◌^◌, Bool, true, false, ◌||◌, eqb, leb, List, [], ◌∷◌, ◌++◌, map, length, get_or, set}
+use Rattle.std.specs.Prelude.{ℕ, suc, ◌^◌, Bool, ◌||◌, leb, List, [], ◌∷◌, ◌++◌, map, length, get_or, set}
 use Rattle.mope_base.specs.declared.numbers.TableNo.{TableNo}
 use Rattle.workload.specs.declared.plain.PlainRow.{PlainRow}
 use Rattle.workload.specs.declared.plain.PlainTable.{PlainTable}
 use Rattle.workload.specs.declared.plain.PlainDb.{PlainDb}
 use Rattle.workload.specs.declared.script.Decl.{Decl}
+use Rattle.workload.specs.Selection.{without_rows}
 
 -- a table without rows, whose first row gets the number 1
 unfoldable pub empty_table : PlainTable
@@ -22,30 +23,23 @@ table_of db t = get_or db.tables t.0 empty_table
 unfoldable pub with_table : PlainDb → TableNo → PlainTable → PlainDb
 with_table db t table = record { tables = set db.tables t.0 table }
 
--- a table takes no further row: it has 65,536, or the numbers of its rows are used up
+-- the most rows that a table has at one time
+abbrev pub row_limit : ℕ
+row_limit = 65536
+
+-- a table takes no further row: it has as many as it may, or the numbers of its rows are used up
 unfoldable pub is_full : PlainTable → Bool
-is_full table = leb 65536 (length table.rows) || leb (2 ^ 63) table.next
+is_full table = leb row_limit (length table.rows) || leb (2 ^ 63) table.next
 
 -- the table with a row of these values at its end, under the next number
 unfoldable pub with_row : PlainTable → List ℕ → PlainTable
 with_row table values =
     record { rows = table.rows ++ record { number = table.next; values = values } ∷ []; next = suc table.next }
 
--- a row stays unless it is the one
-unfoldable pub kept_unless : Bool → PlainRow → List PlainRow → List PlainRow
-kept_unless true row rows = rows
-kept_unless false row rows = row ∷ rows
-
--- the rows without those of this number
-unfoldable pub without_row : ℕ → List PlainRow → List PlainRow
-without_row number [] = []
-without_row number (row ∷ rows) = kept_unless (eqb row.number number) row (without_row number rows)
-
--- the rows after those of these numbers were taken out, one after another
-unfoldable pub without_rows : List ℕ → List PlainRow → List PlainRow
-without_rows [] rows = rows
-without_rows (number ∷ numbers) rows = without_rows numbers (without_row number rows)
+-- the number of a row
+abbrev pub row_number : PlainRow → ℕ
+row_number row = row.number
 
 -- the table without the rows of these numbers; its next number stays, so that none is used again
 unfoldable pub table_without : PlainTable → List ℕ → PlainTable
-table_without table numbers = record { rows = without_rows numbers table.rows; next = table.next }
+table_without table numbers = record { rows = without_rows row_number numbers table.rows; next = table.next }

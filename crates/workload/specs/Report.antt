@@ -46,14 +46,18 @@ end_text w (end.Conflict t number) = numbered (codes "conflict " ++ name_of w t)
 end_text w (end.Installed number) = numbered (codes "installed") number
 end_text w (end.Stale t number) = numbered (codes "stale " ++ name_of w t) number
 
--- a value, or that there is none
-unfoldable pub number_or_none : List ℕ → Option ℕ → List ℕ
-number_or_none word None = word ++ codes " none"
-number_or_none word (Some number) = numbered word number
+-- a value of an answer, as it is printed
+unfoldable pub value_text : ℕ → List ℕ
+value_text value = decimal value
+
+-- a word, and a value after a space, or that there is none
+unfoldable pub value_or_none : List ℕ → Option ℕ → List ℕ
+value_or_none word None = word ++ codes " none"
+value_or_none word (Some value) = word ++ 32 ∷ value_text value
 
 -- values, each after a space
 unfoldable pub after_spaces : List ℕ → List ℕ
-after_spaces values = flat_map (λ value. 32 ∷ decimal value) values
+after_spaces values = flat_map (λ value. 32 ∷ value_text value) values
 
 -- so many rows, each of so many values
 unfoldable pub row_lines : ℕ → ℕ → List ℕ → List ℕ
@@ -69,8 +73,8 @@ unfoldable pub answer_lines : Answer → List ℕ
 answer_lines answer.Inserted = line (codes "inserted 1")
 answer_lines (answer.Deleted count) = line (numbered (codes "deleted") count)
 answer_lines (answer.Count count) = line (numbered (codes "count") count)
-answer_lines (answer.Min least) = line (number_or_none (codes "min") least)
-answer_lines (answer.Max greatest) = line (number_or_none (codes "max") greatest)
+answer_lines (answer.Min least) = line (value_or_none (codes "min") least)
+answer_lines (answer.Max greatest) = line (value_or_none (codes "max") greatest)
 answer_lines (answer.Rows width values) =
     line (numbered (codes "rows") (row_count width values)) ++ row_lines (row_count width values) width values
 

@@ -236,6 +236,15 @@ run w turns = finished_sessions (take_turns (initial w) turns) (session_numbers 
 unfoldable pub turns_taken : Run → List SessionNo
 turns_taken r = map (λ (t : Turn). t.session) r.turns
 
--- a list of turns is complete: none is skipped and none is left to finish
+-- none of the turns is skipped: each finds its session with a turn to take
+abbrev pub SkipsNone : Workload → List SessionNo → Type 0
+SkipsNone w turns = turns_taken (take_turns (initial w) turns) ≡ turns
+
+-- after the turns no session has anything to finish
+abbrev pub LeavesNone : Workload → List SessionNo → Type 0
+LeavesNone w turns = run w turns ≡ take_turns (initial w) turns
+
+-- a list of turns is complete: the turns that its run takes are the list's own. So it skips none and leaves none, and the
+-- other way about
 abbrev pub IsComplete : Workload → List SessionNo → Type 0
 IsComplete w turns = turns_taken (run w turns) ≡ turns

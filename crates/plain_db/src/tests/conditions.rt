@@ -1,8 +1,10 @@
-//! Tests of what the calls require. The names of at most two columns are compared.
+//! Tests of what the calls require. The table is `t`, and its columns are `a` and `b`, or one of them.
 
-ghost use Rattle.std.specs.Prelude.{◌≡◌, ◌≤◌, ◌<◌, length, IsTrue};
+ghost use Rattle.std.specs.Prelude.{◌≡◌, ◌≤◌, ◌<◌, ◌+◌, ◌^◌, length, IsTrue, MatchOption};
+ghost use Rattle.std.specs.List.{sum_by};
+ghost use Rattle.sql_text.specs.Words.{IsName};
 ghost use Rattle.mope_base.specs.Lists.{Each};
-ghost use Rattle.workload.specs.Validity.{AreDistinct, IsValid, IsValidDecl, IsValidScript, IsValidPiece, IsValidAct, IsValidVerb, IsColumn, IsOrderColumn, column_count};
+ghost use Rattle.workload.specs.Validity.{AreDistinct, IsValid, IsValidDecl, IsValidScript, IsValidPiece, IsValidAct, IsValidVerb, IsValidTest, IsColumn, IsOrderColumn, IsLimit, IsNumber, HasNumbers, column_count, inserted_numbers, numbers_inserted};
 ghost use Rattle.plain_db.specs.Answerable.{IsAnswerable, IsNarrowAct, IncreaseBelow};
 
 use crate::trying::table_of_act;
@@ -47,6 +49,22 @@ fn is_order_column(tables: &[Decl], t: TableNo, order: Option<(ColNo, bool)>) ->
     }
 }
 
+/// Always so, by the type.
+fn is_number(n: u64) -> bool
+    ensures { IsTrue result → IsNumber n }
+{
+    n <= u64::MAX
+}
+
+fn is_limit(limit: Option<u64>) -> bool
+    ensures { IsTrue result → IsLimit limit }
+{
+    match limit {
+        None => true,
+        Some(limit) => is_number(limit),
+    }
+}
+
 fn is_valid_verb(tables: &[Decl], t: TableNo, verb: &Verb) -> bool
     ensures { IsTrue result → IsValidVerb tables.now t verb.now }
 {
@@ -54,13 +72,13 @@ fn is_valid_verb(tables: &[Decl], t: TableNo, verb: &Verb) -> bool
         Verb::Rows {
             columns,
             order,
-            limit: _,
+            limit,
         } => {
             let columns = columns.as_slice();
             if columns.is_empty() || columns.len() > 8 || !are_columns(tables, t, columns) {
                 return false;
             }
-            is_order_column(tables, t, *order)
+            is_order_column(tables, t, *order) && is_limit(*limit)
         }
         Verb::Count => true,
         Verb::Min(column) => is_column(tables, t, *column),
@@ -69,11 +87,31 @@ fn is_valid_verb(tables: &[Decl], t: TableNo, verb: &Verb) -> bool
     }
 }
 
-fn have_columns(tables: &[Decl], t: TableNo, tests: &[(ColNo, Test)]) -> bool
-    ensures { IsTrue result → Each (λ (test : ColNo × Test). IsColumn tables.now t test.0) tests.now }
+fn has_numbers(test: Test) -> bool
+    ensures { IsTrue result → HasNumbers test }
+{
+    match test {
+        Test::Eq(c) => is_number(c),
+        Test::Lt(c) => is_number(c),
+        Test::Le(c) => is_number(c),
+        Test::Gt(c) => is_number(c),
+        Test::Ge(c) => is_number(c),
+        Test::Between(low, high) => is_number(low) && is_number(high),
+    }
+}
+
+fn is_valid_test(tables: &[Decl], t: TableNo, column: ColNo, test: Test) -> bool
+    ensures { IsTrue result → IsValidTest tables.now t (column, test) }
+{
+    is_column(tables, t, column) && has_numbers(test)
+}
+
+fn are_valid_tests(tables: &[Decl], t: TableNo, tests: &[(ColNo, Test)]) -> bool
+    ensures { IsTrue result → Each (IsValidTest tables.now t) tests.now }
 {
     'tests: for i in 0..tests.len() {
-        if !is_column(tables, t, tests[i].0) {
+        let (column, test) = tests[i];
+        if !is_valid_test(tables, t, column, test) {
             return false;
         }
     }
@@ -87,10 +125,21 @@ fn is_valid_ask(tables: &[Decl], ask: &Ask) -> bool
     if ask.table.0 as usize >= tables.len() || tests.len() > 8 {
         return false;
     }
-    if !have_columns(tables, ask.table, tests) {
+    if !are_valid_tests(tables, ask.table, tests) {
         return false;
     }
     is_valid_verb(tables, ask.table, &ask.verb)
+}
+
+fn are_numbers(values: &[u64]) -> bool
+    ensures { IsTrue result → Each IsNumber values.now }
+{
+    'values: for i in 0..values.len() {
+        if !is_number(values[i]) {
+            return false;
+        }
+    }
+    true
 }
 
 fn is_valid_act(tables: &[Decl], act: &Act) -> bool
@@ -100,6 +149,7 @@ fn is_valid_act(tables: &[Decl], act: &Act) -> bool
         Act::Insert { table, values } => {
             (table.0 as usize) < tables.len()
                 && values.as_slice().len() == columns_of(tables, *table)
+                && are_numbers(values.as_slice())
         }
         Act::Ask(ask) => is_valid_ask(tables, ask),
     }
@@ -129,6 +179,52 @@ fn is_valid_piece(tables: &[Decl], piece: &Piece) -> bool
     }
 }
 
+/// What is left of `most` after the numbers of a statement.
+fn left_by_act(most: u64, act: &Act) -> Option<u64>
+    ensures { MatchOption result (Unit {0}) (λ left. left + inserted_numbers act.now ≡ most) }
+{
+    match act {
+        Act::Insert { table: _, values } => most.checked_sub(values.as_slice().len() as u64),
+        Act::Ask(_) => Some(most),
+    }
+}
+
+fn left_by_acts(most: u64, acts: &[Act]) -> Option<u64>
+    ensures { MatchOption result (Unit {0}) (λ left. left + sum_by inserted_numbers acts.now ≡ most) }
+{
+    let mut left = most;
+    'acts: for i in 0..acts.len() {
+        left = left_by_act(left, &acts[i])?;
+    }
+    Some(left)
+}
+
+fn left_by_piece(most: u64, piece: &Piece) -> Option<u64>
+    ensures { MatchOption result (Unit {0}) (λ left. left + numbers_inserted piece.now ≡ most) }
+{
+    match piece {
+        Piece::Txn { acts, rollback: _ } => left_by_acts(most, acts.as_slice()),
+        Piece::Rebuild {
+            table: _,
+            column: _,
+        } => Some(most),
+    }
+}
+
+/// Whether the INSERTs of a script have at most so many numbers.
+fn has_few_numbers(most: u64, pieces: &[Piece]) -> bool
+    ensures { IsTrue result → sum_by numbers_inserted pieces.now ≤ most }
+{
+    let mut left = most;
+    'pieces: for i in 0..pieces.len() {
+        match left_by_piece(left, &pieces[i]) {
+            Some(rest) => left = rest,
+            None => return false,
+        }
+    }
+    true
+}
+
 fn is_valid_script(tables: &[Decl], pieces: &[Piece]) -> bool
     ensures { IsTrue result → IsValidScript tables.now pieces.now }
 {
@@ -137,7 +233,10 @@ fn is_valid_script(tables: &[Decl], pieces: &[Piece]) -> bool
             return false;
         }
     }
-    pieces.len() < 1 << 32
+    if pieces.len() >= 1 << 32 {
+        return false;
+    }
+    has_few_numbers((1 << 32) - 1, pieces)
 }
 
 fn are_valid_scripts(tables: &[Decl], scripts: &[Items<Piece>]) -> bool
@@ -166,11 +265,35 @@ fn are_distinct(names: &[Name]) -> bool
     names.len() == 1
 }
 
+fn is_name(name: &Name) -> bool
+    ensures { IsTrue result → IsName name.now.bytes }
+{
+    let bytes = name.bytes.as_slice();
+    if bytes == b"t".as_slice() {
+        return true;
+    }
+    if bytes == b"a".as_slice() {
+        return true;
+    }
+    bytes == b"b".as_slice()
+}
+
+fn are_names(names: &[Name]) -> bool
+    ensures { IsTrue result → Each (λ (name : Name). IsName name.bytes) names.now }
+{
+    'names: for i in 0..names.len() {
+        if !is_name(&names[i]) {
+            return false;
+        }
+    }
+    true
+}
+
 fn is_valid_decl(d: &Decl) -> bool
     ensures { IsTrue result → IsValidDecl d.now }
 {
     let columns = d.columns.as_slice();
-    if columns.is_empty() || columns.len() > 8 {
+    if columns.is_empty() || columns.len() > 8 || !is_name(&d.name) || !are_names(columns) {
         return false;
     }
     are_distinct(columns)

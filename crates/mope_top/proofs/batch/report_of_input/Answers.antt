@@ -1,6 +1,8 @@
 use Rattle.std.proofs.Common.{◌≡◌, ◌∙◌, ap, sym, []}
+use Rattle.plain_db.proofs.SerialLemmas.{serial}
+use Rattle.plain_db.proofs.Taken.{taken-complete}
 use Rattle.mope_top.specs.FirstForm.{IsFirstForm}
-use Rattle.mope_top.specs.FirstRun.{report_of, answers_of}
+use Rattle.mope_top.specs.FirstRun.{report_of, answers_of, workload_of}
 use Rattle.mope_top.proofs.FirstRunLemmas.{report-first_form}
 use Rattle.mope_top.proofs.batch.report_of_input.Goals as goal
 
@@ -15,4 +17,5 @@ returns c =
       spelled = spelled;
       text_is = text ∙ ap report_of (c.deref-2.ensures.value ∙ answered ∙ ap (answers_of []) c.deref.ensures.value)
           ∙ sym (report-first_form statements spelled.few);
+      one_history = record { complete = taken-complete (workload_of statements) []; serial = serial (workload_of statements) [] };
     }

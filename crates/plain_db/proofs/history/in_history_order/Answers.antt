@@ -1,7 +1,7 @@
 use Rattle.std.proofs.Common.{◌∙◌, ap, rules}
 use Rattle.workload.specs.Selection.{ordered}
 use Rattle.workload.specs.History.{comes_before}
-use Rattle.plain_db.proofs.StableLemmas.{ordered-from_sort_by}
+use Rattle.workload.proofs.StableSort.{ordered-from_sort_by}
 use Rattle.plain_db.proofs.HistoryLemmas.{history-order}
 use Rattle.plain_db.proofs.history.in_history_order.Goals as goal
 

@@ -25,7 +25,7 @@ pub turn_at-requires-clause-short : goal.turn_at-requires-clause-short
 turn_at-requires-clause-short c =
     omega (
       arith,
-      (script-valid c.args.w.now c.in-Some.k c.requires.valid).1,
+      (script-valid c.args.w.now c.in-Some.k c.requires.valid).few_pieces,
       ap (λ (l : List Piece). length l)
           (c.as_slice-in-Some.ensures ∙ script-read c.args.w.now c.as_slice.result.now c.in-Some.k c.index-as_slice-k.result c.as_slice.ensures c.index-as_slice-k.is
           (omega (arith, c.in-Some.ensures.1, place-count c.args.w.now c.args.state.now c.requires.reached.0 c.requires.reached.1 c.requires.reached.2))),
@@ -37,7 +37,7 @@ turn_at-requires-clause-fit c =
     (omega (arith, c.in-Some.ensures.1, place-count c.args.w.now c.args.state.now c.requires.reached.0 c.requires.reached.1 c.requires.reached.2)))
     (pieces-fit c.args.w.now.tables (length c.args.state.now.current.tables) _
     (state-tables c.args.w.now c.args.state.now c.requires.reached.0 c.requires.reached.1 c.requires.reached.2)
-    (script-valid c.args.w.now c.in-Some.k c.requires.valid).0)
+    (script-valid c.args.w.now c.in-Some.k c.requires.valid).valid)
 
 pub returns-in-None : goal.returns-in-None
 returns-in-None c = λ r shows. skipped c.args.w.now c.args.state.now r c.args.s shows (rw c.in-None.is at c.index_of.ensures)

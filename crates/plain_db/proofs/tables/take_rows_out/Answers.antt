@@ -1,7 +1,6 @@
 use Rattle.std.proofs.Common.{◌∙◌, ap, length, map, filter, arith}
 use Rattle.workload.specs.declared.plain.PlainDb.{PlainDb}
-use Rattle.workload.specs.declared.plain.PlainRow.{PlainRow}
-use Rattle.workload.specs.PlainDatabase.{with_table, table_without}
+use Rattle.workload.specs.PlainDatabase.{with_table, table_without, row_number}
 use Rattle.workload.specs.Selection.{passes}
 use Rattle.workload.specs.Outcome.{value_at}
 use Rattle.plain_db.proofs.TableLemmas.{with_table-twice, length-with_table}
@@ -21,4 +20,4 @@ returns c =
     ∙ with_table-twice c.args.db.now c.args.t c.no_rows.result c.without_passing.result
     ∙ ap (λ table. with_table c.args.db.now c.args.t table) (
     c.without_passing.ensures
-    ∙ ap (λ table. table_without table (map (λ (row : PlainRow). row.number) (filter (passes value_at c.args.tests.now) table.rows))) c.exchange-table.ensures.given)
+    ∙ ap (λ table. table_without table (map row_number (filter (passes value_at c.args.tests.now) table.rows))) c.exchange-table.ensures.given)

@@ -1,5 +1,4 @@
-use Rattle.std.proofs.Common.{refl}
-use Rattle.std.proofs.lemmas.Bool.{ltb-true}
+use Rattle.std.proofs.Common.{refl, arith, rules}
 use Rattle.plain_db.proofs.ConditionLemmas.{enough-next, enough-end}
 use Rattle.plain_db.proofs.tests.conditions.is_valid_script.Goals as goal
 
@@ -9,4 +8,8 @@ pieces-preserved c =
     c.pieces.invariant
 
 pub returns : goal.returns
-returns c = λ few. (enough-end _ c.args.pieces.now c.pieces.i c.pieces-test.false c.pieces.invariant, ltb-true _ _ few)
+returns c = λ few. record {
+  valid = enough-end _ c.args.pieces.now c.pieces.i c.pieces-test.false c.pieces.invariant;
+  few_pieces = search rules;
+  few_numbers = omega (arith, c.has_few_numbers.ensures few);
+}

@@ -1,10 +1,10 @@
 use Rattle.std.proofs.Common.{refl}
 use Rattle.plain_db.proofs.ConditionLemmas.{enough-more, enough-end}
-use Rattle.plain_db.proofs.tests.conditions.have_columns.Goals as goal
+use Rattle.plain_db.proofs.tests.conditions.are_valid_tests.Goals as goal
 
 pub tests-preserved : goal.tests-preserved
 tests-preserved c =
-    enough-more _ c.args.tests.now c.tests.i _ c.tests-test.true (c.if-not-is_column.ensures refl) c.tests.invariant
+    enough-more _ c.args.tests.now c.tests.i _ c.tests-test.true (c.if-not-is_valid_test.ensures refl) c.tests.invariant
 
 pub returns : goal.returns
 returns c = λ _. enough-end _ c.args.tests.now c.tests.i c.tests-test.false c.tests.invariant

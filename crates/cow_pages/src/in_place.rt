@@ -48,6 +48,7 @@ fn edit_items<T: Copy>(items: &mut Vec<T>, place: usize, edit: Edit<T>) -> bool
 impl<T: Copy> Link<T> {
     /// Makes a change without a copy, and answers whether it did. It doesn't where a page on the way is shared, or where the
     /// leaf has no room or would be empty: then nothing has changed.
+    #[cycle(edit_in_place)]
     pub fn edit_in_place(&mut self, place: usize, edit: Edit<T>) -> bool
         requires place { HasPlace edit self.old.1 place }
         requires room { length self.old.1 + 1 < 2 ^ 64 }
@@ -65,6 +66,7 @@ impl<T: Copy> Link<T> {
 }
 
 impl<T: Copy> Page<T> {
+    #[cycle(edit_in_place)]
     fn edit_in_place(&mut self, place: usize, edit: Edit<T>) -> bool
         requires place { HasPlace edit self.old.1 place }
         requires room { length self.old.1 + 1 < 2 ^ 64 }

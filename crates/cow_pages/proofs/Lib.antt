@@ -1,0 +1,4 @@
+mod Descents
+mod PageLists
+mod PartLists
+mod Splices

@@ -60,3 +60,15 @@ parts-as low height parts items others le same h = record {
   same = h.same ∙ same;
   low = Below-raised (suc low) (suc height) (pages_of parts) (omega arith) h.low;
 }
+
+pub flat-one : {A : Type 0} (page : ℕ × List A) → flat (page ∷ []) ≡ page.1
+unfolding flat
+flat-one page = append-nil page.1
+
+pub flat-two : {A : Type 0} (page next : ℕ × List A) → flat (page ∷ next ∷ []) ≡ page.1 ++ next.1
+unfolding flat
+flat-two page next = ap (λ (zs : List _). page.1 ++ zs) (append-nil next.1)
+
+pub low-two : {A : Type 0} (height : ℕ) (page next : ℕ × List A) → page.0 < height → next.0 < height → Below height (page ∷ next ∷ [])
+unfolding Below
+low-two height page next low low_next = (low, (low_next, tt))

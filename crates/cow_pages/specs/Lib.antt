@@ -6,3 +6,4 @@ pub mod Nodes
 pub mod PagesFall
 pub mod Parts
 pub mod Rooted
+pub mod Search

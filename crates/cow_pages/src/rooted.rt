@@ -3,7 +3,7 @@ ghost use Rattle.cow_pages.specs.Edits.{HasPlace, changed};
 ghost use Rattle.cow_pages.specs.Lists.{flat};
 ghost use Rattle.cow_pages.specs.Parts.{pages_of};
 ghost use Rattle.cow_pages.specs.Rooted.{rooted};
-ghost use Rattle.std.specs.Prelude.{◌≡◌, ◌+◌, ◌<◌, ◌^◌, IfOk, IsFalse, ◌++◌, if◌then◌else◌, is_ok, length};
+ghost use Rattle.std.specs.Prelude.{◌≡◌, ◌+◌, ◌<◌, ◌≤◌, ◌^◌, IfOk, IsFalse, ◌++◌, if◌then◌else◌, is_ok, length};
 
 use crate::OutOfMemory;
 use crate::copying::edited_items;
@@ -12,12 +12,20 @@ use crate::making::{Parts, inner, leaves};
 use crate::pages::Link;
 use std::alloc::Global;
 
+/// The greater of two heights.
+fn higher(height: usize, other: usize) -> usize
+    ensures first { height ≤ result }
+    ensures second { other ≤ result }
+{
+    if height < other { other } else { height }
+}
+
 /// A page over two.
 fn over_two<T: Copy>(alloc: Global, link: Link<T>, next: Link<T>) -> Result<Link<T>, OutOfMemory>
     requires { length link.1 + length next.1 < 2 ^ 64 }
     ensures { IfOk result (λ root. root.1 ≡ link.1 ++ next.1) }
 {
-    let Some(height) = link.height().max(next.height()).checked_add(1) else {
+    let Some(height) = higher(link.height(), next.height()).checked_add(1) else {
         return Err(OutOfMemory);
     };
     let mut links = Vec::with_capacity(alloc, 2)?;

@@ -1,5 +1,5 @@
 -- What a page becomes: nothing, one page or two.
-use Rattle.std.proofs.Common.{◌≡◌, ℕ, ◌+◌, suc, ◌<◌, ◌≤◌, List, [], ◌∷◌, ◌++◌, length, take, drop, refl, ap, ◌∙◌, sym, subst, arith, length-append}
+use Rattle.std.proofs.Common.{◌≡◌, ℕ, suc, ◌<◌, ◌≤◌, List, [], ◌∷◌, ◌++◌, length, take, drop, refl, ap, ◌∙◌, sym, subst, arith, length-append}
 use Rattle.std.proofs.lemmas.List.{append-nil, take-append-drop}
 use Rattle.std.specs.Prelude.{Result, Ok, Err, IfOk}
 use Rattle.cow_pages.specs.declared.making.Parts.{Parts}
@@ -32,8 +32,12 @@ unfolding flat Below
 parts-two height page next first second items is is_next sum = record {
   same = ap (λ (zs : List _). page.1 ++ zs) (append-nil next.1) ∙ ap (λ (p : ℕ × List _). p.1 ++ next.1) is ∙ ap (λ (p : ℕ × List _). first ++ p.1) is_next ∙ sum;
   low = (
-    let same : page.0 ≡ height = ap (λ (p : ℕ × List _). p.0) is in omega arith, (
-    let same : next.0 ≡ height = ap (λ (p : ℕ × List _). p.0) is_next in omega arith, tt));
+    let same : page.0 ≡ height = ap (λ (p : ℕ × List _). p.0) is in omega arith,
+    (
+      let same : next.0 ≡ height = ap (λ (p : ℕ × List _). p.0) is_next in omega arith,
+      tt,
+    ),
+  );
 }
 
 pub flat-halves : {A : Type 0} (pages : List (ℕ × List A)) (k : ℕ) → flat (take k pages) ++ flat (drop k pages) ≡ flat pages

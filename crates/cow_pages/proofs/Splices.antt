@@ -1,14 +1,14 @@
 -- A change at a place of a list, within a part of the list.
-use Rattle.std.proofs.Common.{◌≡◌, ℕ, ◌+◌, ◌-◌, suc, zero, ◌<◌, ◌≤◌, List, [], ◌∷◌, ◌++◌, length, take, drop, get_or, set, refl, ap, ap₂, ◌∙◌, sym, subst, arith, append_assoc, length-append, length-set}
+use Rattle.std.proofs.Common.{◌≡◌, ℕ, ◌+◌, ◌-◌, ◌≤◌, List, ◌++◌, length, set, refl, ap, ◌∙◌, sym, arith, length-set}
 use Rattle.std.specs.List.{insert, remove}
-use Rattle.std.proofs.lemmas.List.{set-append_left, set-append_right, take_at, drop_at, set_at}
+use Rattle.std.proofs.lemmas.List.{set-append_left, set-append_right}
 use Rattle.std.proofs.lemmas.List.Edits.{insert-append_left, insert-append_right, remove-append_left, remove-append_right, length-insert, length-remove}
 use Rattle.cow_pages.specs.declared.edit.Edit.{Edit}
 use Rattle.cow_pages.specs.declared.edit.Edit.TheVariants.{Set, Insert, Remove}
 use Rattle.cow_pages.specs.Edits.{changed, HasPlace}
 use Rattle.cow_pages.specs.Counts.{count_after}
 use Rattle.cow_pages.specs.Lists.{flat, IsPlace}
-use Rattle.cow_pages.proofs.PageLists.{flat-parts, length-flat-parts, flat-append}
+use Rattle.cow_pages.proofs.PageLists.{flat-parts, flat-append}
 
 pub length-changed : {A : Type 0} (e : Edit A) (xs : List A) (i : ℕ) → HasPlace e xs i → length (changed e xs i) ≡ count_after e (length xs)
 length-changed (Set x) xs i h = length-set xs i x

@@ -4,7 +4,7 @@ use Rattle.std.proofs.Common.{arith}
 use Rattle.cow_pages.specs.declared.pages.Node.{Node}
 use Rattle.cow_pages.specs.declared.pages.Node.TheVariants.{Leaf, Inner}
 use Rattle.cow_pages.specs.declared.pages.Link.TheDeep.{deep-Node}
-use Rattle.cow_pages.specs.Lists.{flat, Below}
+use Rattle.cow_pages.specs.Lists.{Below}
 use Rattle.cow_pages.specs.Nodes.{IsNode}
 use denote.Param.Weighed.{most}
 

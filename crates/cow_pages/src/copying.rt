@@ -12,7 +12,12 @@ use std::alloc::Global;
 use std::sync::Arc;
 
 /// The items of a leaf after a change.
-pub fn edited_items<T: Copy>(alloc: Global, items: &[T], place: usize, edit: Edit<T>) -> Result<Vec<T>, OutOfMemory>
+pub fn edited_items<T: Copy>(
+    alloc: Global,
+    items: &[T],
+    place: usize,
+    edit: Edit<T>,
+) -> Result<Vec<T>, OutOfMemory>
     requires { HasPlace edit items.now place }
     ensures { IfOk result (λ copy. copy.items ≡ changed edit items.now place) }
 {
@@ -66,7 +71,12 @@ fn push_parts<T: Copy>(into: &mut Vec<Link<T>>, parts: Parts<T>) -> Result<(), O
 }
 
 /// These links, with other pages in place of the one of this number.
-fn replaced<T: Copy>(alloc: Global, links: &[Link<T>], number: usize, parts: Parts<T>) -> Result<Vec<Link<T>>, OutOfMemory>
+fn replaced<T: Copy>(
+    alloc: Global,
+    links: &[Link<T>],
+    number: usize,
+    parts: Parts<T>,
+) -> Result<Vec<Link<T>>, OutOfMemory>
     requires { number < length links.now }
     ensures { IfOk result (λ copy. copy.items ≡ take number links.now ++ (pages_of parts ++ drop (number + 1) links.now)) }
 {
@@ -79,7 +89,12 @@ fn replaced<T: Copy>(alloc: Global, links: &[Link<T>], number: usize, parts: Par
 
 impl<T: Copy> Link<T> {
     /// The page after a change, as new pages: this one stays.
-    pub fn edited(&self, alloc: Global, place: usize, edit: Edit<T>) -> Result<Parts<T>, OutOfMemory>
+    pub fn edited(
+        &self,
+        alloc: Global,
+        place: usize,
+        edit: Edit<T>,
+    ) -> Result<Parts<T>, OutOfMemory>
         requires place { HasPlace edit self.now.1 place }
         requires room { length self.now.1 + 1 < 2 ^ 64 }
         ensures { IfOk result (λ parts. IsPartsOf self.now.0 parts (changed edit self.now.1 place)) }

@@ -44,7 +44,11 @@ fn total<T: Copy>(links: &[Link<T>]) -> usize
 }
 
 /// A page over lower pages.
-pub fn inner<T: Copy>(alloc: Global, height: usize, links: Vec<Link<T>>) -> Result<Link<T>, OutOfMemory>
+pub fn inner<T: Copy>(
+    alloc: Global,
+    height: usize,
+    links: Vec<Link<T>>,
+) -> Result<Link<T>, OutOfMemory>
     requires low { Below height links.items }
     requires some { 0 < length links.items }
     requires short { length (flat links.items) < 2 ^ 64 }
@@ -62,7 +66,11 @@ pub fn inner<T: Copy>(alloc: Global, height: usize, links: Vec<Link<T>>) -> Resu
 }
 
 /// Leaves with these items.
-pub fn leaves<T: Copy>(alloc: Global, mut items: Vec<T>, split: Split) -> Result<Parts<T>, OutOfMemory>
+pub fn leaves<T: Copy>(
+    alloc: Global,
+    mut items: Vec<T>,
+    split: Split,
+) -> Result<Parts<T>, OutOfMemory>
     ensures { IfOk result (λ parts. IsPartsOf 0 parts items.items) }
 {
     let count = items.len();
@@ -77,7 +85,12 @@ pub fn leaves<T: Copy>(alloc: Global, mut items: Vec<T>, split: Split) -> Result
 }
 
 /// Pages over these lower pages.
-pub fn inners<T: Copy>(alloc: Global, height: usize, mut links: Vec<Link<T>>, split: Split) -> Result<Parts<T>, OutOfMemory>
+pub fn inners<T: Copy>(
+    alloc: Global,
+    height: usize,
+    mut links: Vec<Link<T>>,
+    split: Split,
+) -> Result<Parts<T>, OutOfMemory>
     requires low { Below height links.items }
     requires short { length (flat links.items) < 2 ^ 64 }
     ensures { IfOk result (λ parts. IsPartsOf height parts (flat links.items)) }
@@ -90,8 +103,5 @@ pub fn inners<T: Copy>(alloc: Global, height: usize, mut links: Vec<Link<T>>, sp
         return Ok(Parts::One(inner(alloc, height, links)?));
     }
     let rest = links.split_off(split.place(count))?;
-    Ok(Parts::Two(
-        inner(alloc, height, links)?,
-        inner(alloc, height, rest)?,
-    ))
+    Ok(Parts::Two(inner(alloc, height, links)?, inner(alloc, height, rest)?))
 }

@@ -90,7 +90,12 @@ impl<T: Copy> Paged<T> {
         ensures err { OnErr result (self.new ≡ self.old) }
     {
         let end = self.len();
-        edit_root(self.alloc, &mut self.root, end, Edit::Insert(item, Split::End))
+        edit_root(
+            self.alloc,
+            &mut self.root,
+            end,
+            Edit::Insert(item, Split::End),
+        )
     }
 
     /// Puts `item` before the item at a place, or at the end.
@@ -102,7 +107,12 @@ impl<T: Copy> Paged<T> {
         if place == self.len() {
             return self.push(item);
         }
-        edit_root(self.alloc, &mut self.root, place, Edit::Insert(item, Split::Half))
+        edit_root(
+            self.alloc,
+            &mut self.root,
+            place,
+            Edit::Insert(item, Split::Half),
+        )
     }
 
     /// Takes the item at a place out.

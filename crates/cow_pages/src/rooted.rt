@@ -47,7 +47,12 @@ fn joined<T: Copy>(alloc: Global, parts: Parts<T>) -> Result<Option<Link<T>>, Ou
 }
 
 /// A changed copy of the list under a root.
-fn edited_root<T: Copy>(alloc: Global, root: &Option<Link<T>>, place: usize, edit: Edit<T>) -> Result<Parts<T>, OutOfMemory>
+fn edited_root<T: Copy>(
+    alloc: Global,
+    root: &Option<Link<T>>,
+    place: usize,
+    edit: Edit<T>,
+) -> Result<Parts<T>, OutOfMemory>
     requires place { HasPlace edit (rooted root.now) place }
     requires room { length (rooted root.now) + 1 < 2 ^ 64 }
     ensures { IfOk result (λ parts. flat (pages_of parts) ≡ changed edit (rooted root.now) place) }
@@ -93,7 +98,12 @@ pub fn share_root<T: Copy>(root: &Option<Link<T>>) -> Result<Option<Link<T>>, Ou
 }
 
 /// Makes a change in the list under a root. After `OutOfMemory` the list is as before.
-pub fn edit_root<T: Copy>(alloc: Global, root: &mut Option<Link<T>>, place: usize, edit: Edit<T>) -> Result<(), OutOfMemory>
+pub fn edit_root<T: Copy>(
+    alloc: Global,
+    root: &mut Option<Link<T>>,
+    place: usize,
+    edit: Edit<T>,
+) -> Result<(), OutOfMemory>
     requires { HasPlace edit (rooted root.old) place }
     ensures { rooted root.new ≡ (if is_ok result then changed edit (rooted root.old) place else rooted root.old) }
 {

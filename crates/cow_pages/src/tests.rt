@@ -70,6 +70,7 @@ fn items(alloc: Global, list: &Paged<u64>) -> Result<Vec<u64>, OutOfMemory> {
 }
 
 /// The cut before the first number that isn't below this.
+#[derive(Drop)]
 struct Below(u64);
 
 impl Cut<u64> for Below {
@@ -114,6 +115,18 @@ fn two_sharers(rt: HostRuntime) -> Result<(), OutOfMemory> {
     assert_eq!(rt; items(alloc, &first)?, plain_first);
     assert_eq!(rt; items(alloc, &second)?, plain_second);
     assert_eq!(rt; items(alloc, &start)?, plain_start);
+    Ok(())
+}
+
+/// Two items, of which one, both or none stand before a cut.
+#[test]
+fn cuts(rt: HostRuntime) -> Result<(), OutOfMemory> {
+    let mut list = Paged::new(rt.alloc());
+    list.push(3)?;
+    list.push(5)?;
+    for (number, want) in [(3, 0), (4, 1), (5, 1), (6, 2)] {
+        assert_eq!(rt; list.partition_point(&Below(number)), want, "at {number}");
+    }
     Ok(())
 }
 

@@ -1,7 +1,5 @@
-use Rattle.std.proofs.Common.{◌≡◌, ℕ, ◌+◌, ◌≤◌, List, ◌++◌, length, take, drop, ap, ap₂, ◌∙◌, sym, subst, arith, length-append}
-use Rattle.std.proofs.lemmas.List.{take-append-drop}
+use Rattle.std.proofs.Common.{List, ◌++◌, length, ap, ap₂, ◌∙◌, sym, subst, arith}
 use Rattle.cow_pages.specs.Lists.{Below, flat}
-use Rattle.cow_pages.proofs.PageLists.{Below-front, Below-back}
 use Rattle.cow_pages.proofs.PartLists.{parts-gone-pages, parts-one, parts-two, flat-halves, low-halves, flat-front, flat-back}
 use Rattle.cow_pages.proofs.making.inners.Goals as goal
 

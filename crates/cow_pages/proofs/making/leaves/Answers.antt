@@ -1,4 +1,4 @@
-use Rattle.std.proofs.Common.{◌≡◌, ℕ, List, ◌++◌, length, take, drop, ap₂, ◌∙◌, arith}
+use Rattle.std.proofs.Common.{List, ◌++◌, ap₂, ◌∙◌, arith}
 use Rattle.std.proofs.lemmas.List.{take-append-drop}
 use Rattle.cow_pages.proofs.PartLists.{parts-gone, parts-one, parts-two}
 use Rattle.cow_pages.proofs.making.leaves.Goals as goal

@@ -1,4 +1,4 @@
-use Rattle.std.proofs.Common.{◌≡◌, ℕ, ◌+◌, ◌<◌, ◌≤◌, List, length, take, drop, get_or, refl, ap, ◌∙◌, sym, arith}
+use Rattle.std.proofs.Common.{◌≡◌, ◌<◌, length, take, get_or, refl, ap, ◌∙◌, arith}
 use Rattle.cow_pages.specs.Lists.{flat}
 use Rattle.cow_pages.proofs.PageLists.{length-flat-take, length-flat-take-suc}
 use Rattle.cow_pages.proofs.making.total.Goals as goal
@@ -20,4 +20,3 @@ links-preserved g c =
     let more = length-flat-take-suc c.args.links.now c.links.link-index c.link-item.result lt in
     let now : c.links.count ≡ length (flat (take c.links.link-index c.args.links.now)) = c.links.invariant in
     omega (arith, now, more)
-

@@ -1,5 +1,5 @@
-use Rattle.std.proofs.Common.{◌≡◌, ℕ, ◌+◌, ◌-◌, ◌<◌, ◌≤◌, List, ◌++◌, length, take, drop, ap, ap₂, ◌∙◌, sym, subst, arith, length-set}
-use Rattle.cow_pages.specs.Lists.{flat, Below, IsPlace}
+use Rattle.std.proofs.Common.{◌≡◌, List, ap, ◌∙◌, sym, subst, arith, length-set}
+use Rattle.cow_pages.specs.Lists.{flat, IsPlace}
 use Rattle.cow_pages.specs.Nodes.{items_of, IsNode}
 use Rattle.cow_pages.proofs.Descents.{step, low-edited, flat-edited, leaf-edited}
 use Rattle.cow_pages.proofs.pages.+edit_in_place.Goals.{Page::edit_in_place-in-Leaf, Page::edit_in_place-in-Inner}

@@ -1,4 +1,4 @@
-use Rattle.std.proofs.Common.{◌≡◌, ℕ, ◌+◌, ◌<◌, List, [], ◌∷◌, ◌++◌, length, ap, ◌∙◌, sym, arith, length-append}
+use Rattle.std.proofs.Common.{length, ap, ◌∙◌, sym, arith, length-append}
 use Rattle.cow_pages.specs.Lists.{flat}
 use Rattle.cow_pages.specs.Parts.{pages_of}
 use Rattle.cow_pages.proofs.PageLists.{flat-nil}

@@ -1,4 +1,4 @@
-use Rattle.std.proofs.Common.{◌≡◌, ℕ, ◌+◌, ◌<◌, List, [], ◌∷◌, ◌++◌, length, ap, ◌∙◌, sym, subst, arith, length-append}
+use Rattle.std.proofs.Common.{◌≡◌, ℕ, List, [], ◌∷◌, ◌++◌, length, ap, ◌∙◌, sym, subst, arith, length-append}
 use Rattle.cow_pages.specs.Lists.{flat, Below}
 use Rattle.cow_pages.proofs.PartLists.{IfOk-map, flat-two, low-two}
 use Rattle.cow_pages.proofs.rooted.over_two.Goals as goal

@@ -1,4 +1,4 @@
-use Rattle.std.proofs.Common.{◌≡◌, ℕ, ◌<◌, ◌≤◌, ◌+◌, ◌-◌, ◌/◌, length, ap, ◌∙◌, sym, arith}
+use Rattle.std.proofs.Common.{◌<◌, ◌+◌, ◌-◌, ◌/◌, ◌∙◌, sym, arith}
 use Rattle.cow_pages.proofs.Halving.{first_of_run, before_cut, after_cut}
 use Rattle.cow_pages.proofs.paged.Paged.partition_point.Goals as goal
 

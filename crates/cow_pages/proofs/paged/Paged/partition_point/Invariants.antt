@@ -1,5 +1,4 @@
-use Rattle.std.proofs.Common.{◌≡◌, ◌-◌, ◌≤◌, true, false, length}
-use Rattle.std.specs.List.{AllWithin}
+use Rattle.std.proofs.Common.{◌-◌}
 use Rattle.cow_pages.specs.Search.{IsBetween}
 use Rattle.cow_pages.proofs.paged.Paged.partition_point.Given as goal
 

@@ -1,8 +1,8 @@
-use Rattle.std.proofs.Common.{◌≡◌, ℕ, ◌+◌, suc, ◌<◌, ◌≤◌, List, ◌++◌, length, take, drop, ap, ◌∙◌, sym, subst, arith}
-use Rattle.cow_pages.specs.Lists.{flat, Below, IsPlace}
+use Rattle.std.proofs.Common.{◌≡◌, ℕ, ◌+◌, List, ◌++◌, length, take, drop, ap, ◌∙◌, sym, subst, arith}
+use Rattle.cow_pages.specs.Lists.{flat, IsPlace}
 use Rattle.cow_pages.specs.Nodes.{items_of, IsNode}
 use Rattle.cow_pages.specs.Edits.{changed, HasPlace}
-use Rattle.cow_pages.specs.Parts.{IsPartsOf, pages_of}
+use Rattle.cow_pages.specs.Parts.{pages_of}
 use Rattle.cow_pages.proofs.Descents.{seen, step, low-replaced, flat-replaced}
 use Rattle.cow_pages.proofs.PartLists.{IfOk-map, parts-as}
 use Rattle.cow_pages.proofs.Splices.{length-changed-room}

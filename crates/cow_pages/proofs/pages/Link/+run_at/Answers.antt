@@ -1,4 +1,4 @@
-use Rattle.std.proofs.Common.{◌≡◌, ℕ, List, length, take, drop, ap, ◌∙◌, sym, subst}
+use Rattle.std.proofs.Common.{List, ap, ◌∙◌, sym, subst}
 use Rattle.cow_pages.specs.Lists.{IsPlace}
 use Rattle.cow_pages.specs.Nodes.{items_of}
 use Rattle.cow_pages.proofs.Descents.{seen, run_in_page}

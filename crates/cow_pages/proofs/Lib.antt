@@ -1,0 +1,5 @@
+mod Descents
+mod Halving
+mod PageLists
+mod PartLists
+mod Splices

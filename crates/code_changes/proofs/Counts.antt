@@ -1,39 +1,24 @@
 -- The counts of items under the operations, and what depends on counts alone.
-use Rattle.std.proofs.Common.{◌≡◌, ℕ, suc, zero, ◌-◌, ◌<◌, ◌≤◌, List, [], ◌∷◌, length, map, insert, refl, ap, ◌∙◌, sym, inl, inr, arith}
-use Rattle.std.proofs.lemmas.Bool.{cases_lt}
+use Rattle.std.proofs.Common.{◌≡◌, ℕ, zero, List, [], ◌∷◌, length, map, insert, refl, ap, ◌∙◌, sym}
 use Rattle.std.proofs.lemmas.List.{length-map}
 use Rattle.tree_model.specs.declared.Place.TheVariants.{Found, Gap}
-use Rattle.tree_model.specs.Items.{Item, new_item, one_more, one_less, map_item, change_at, add_item, live_items, live, is_sparse}
+use Rattle.tree_model.specs.Items.{Item, one_more, one_less, map_item, change_at, add_item, live_items, live, is_sparse}
 use Rattle.tree_model.specs.Columns.{Column, items_of, add, lay, map_column}
 use Rattle.tree_model.specs.Sums.{bodies, tagged_column}
-use Rattle.tree_model.proofs.Changes.{map-insert, map-change_at, map-change_at_other}
-use Rattle.tree_model.proofs.LiveItems.{live_items-yes, live_items-no, live_items-nil}
+use Rattle.tree_model.proofs.Changes.{map-change_at}
 use Rattle.tree_model.proofs.Mapped.{inorder-map_tree}
 use Rattle.tree_model.proofs.Kept.{items-add, items-lay}
 use Rattle.tree_model.proofs.Summed.{map_column-tagged_zero}
+unfoldable pub use Rattle.tree_model.specs.Tallies.{counts}
+pub use Rattle.tree_model.proofs.TalliedItems.{counts-more, counts-less, counts-new, map-live, counts-live}
 use Rattle.code_changes.specs.Changes.{with_rows}
-use Rattle.code_changes.specs.Columns.{counts_of, raised, lowered}
-
-unfoldable pub counts : {B : Type 0} → List (Item B) → List ℕ
-counts items = map (λ item. item.count) items
+use Rattle.code_changes.specs.Columns.{counts_of, raised}
 
 pub counts_of-items : {B : Type 0} (c : Column B) → counts_of c ≡ counts (items_of c)
 unfolding counts_of counts
 counts_of-items c = refl
 
--- ---- one row more, and one fewer
-
-pub counts-more : {B : Type 0} (items : List (Item B)) (rank : ℕ) → counts (change_at one_more items rank) ≡ raised (counts items) rank
-unfolding counts raised one_more
-counts-more {B} items rank = sym (map-change_at_other (λ (item : Item B). item.count) one_more (λ (count : ℕ). suc count) (λ x. refl) items rank)
-
-pub counts-less : {B : Type 0} (items : List (Item B)) (rank : ℕ) → counts (change_at one_less items rank) ≡ lowered (counts items) rank
-unfolding counts lowered one_less
-counts-less {B} items rank = sym (map-change_at_other (λ (item : Item B). item.count) one_less (λ (count : ℕ). count - 1) (λ x. refl) items rank)
-
-pub counts-new : {B : Type 0} (items : List (Item B)) (rank : ℕ) (b : B) → counts (insert items rank (new_item b)) ≡ insert (counts items) rank 1
-unfolding counts new_item
-counts-new {B} items rank b = map-insert (λ (item : Item B). item.count) items rank (new_item b)
+-- ---- after an operation
 
 pub counts_of-found : {B : Type 0} (rank : ℕ) (b : B) (c : Column B) → counts_of (add (Found rank) b c) ≡ raised (counts_of c) rank
 unfolding counts_of counts add_item
@@ -48,34 +33,6 @@ unfolding counts_of counts
 counts_of-lay c = ap counts (items-lay c)
 
 -- ---- the live items
-
-with-yes : {A : Type 0} (n : ℕ) (rows : List ℕ) (x : A) (xs : List A) → 0 < n → with_rows (n ∷ rows) (x ∷ xs) ≡ x ∷ with_rows rows xs
-unfolding with_rows
-with-yes zero rows x xs h = absurd (omega arith)
-with-yes (suc n) rows x xs h = refl
-
-with-no : {A : Type 0} (n : ℕ) (rows : List ℕ) (x : A) (xs : List A) → n ≤ 0 → with_rows (n ∷ rows) (x ∷ xs) ≡ with_rows rows xs
-unfolding with_rows
-with-no zero rows x xs h = refl
-with-no (suc n) rows x xs h = absurd (omega arith)
-
-with-nil : {A : Type 0} (xs : List A) → with_rows [] xs ≡ []
-unfolding with_rows
-with-nil xs = refl
-
--- what a function makes of the live items is what their counts take of what it makes of all
-pub map-live : {A B : Type 0} (f : Item B → A) (items : List (Item B)) → map f (live_items items) ≡ with_rows (counts items) (map f items)
-unfolding counts
-map-live f [] = ap (map f) live_items-nil ∙ sym (with-nil [])
-map-live f (x ∷ items) =
-    elim (cases_lt 0 x.count) [
-      | inl some ↦ ap (map f) (live_items-yes x items some) ∙ ap (λ (ys : List _). f x ∷ ys) (map-live f items) ∙ sym (with-yes x.count (counts items) (f x) (map f items) some)
-      | inr none ↦ ap (map f) (live_items-no x items none) ∙ map-live f items ∙ sym (with-no x.count (counts items) (f x) (map f items) none)
-    ]
-
-pub counts-live : {B : Type 0} (items : List (Item B)) → counts (live_items items) ≡ with_rows (counts items) (counts items)
-unfolding counts
-counts-live {B} items = map-live (λ (item : Item B). item.count) items
 
 pub bodies-live : {B : Type 0} (items : List (Item B)) → bodies (live_items items) ≡ with_rows (counts items) (bodies items)
 unfolding bodies

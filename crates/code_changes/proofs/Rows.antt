@@ -1,19 +1,13 @@
 -- What a list of counts takes of a list and what it leaves of it, where the list increases.
-use Rattle.std.proofs.Common.{◌≡◌, ℕ, suc, zero, true, false, List, [], ◌∷◌, length, map, refl, ap, ◌∙◌, sym, inl, inr, arith}
+use Rattle.std.proofs.Common.{◌≡◌, ℕ, suc, zero, true, false, List, [], ◌∷◌, length, refl, ap, ◌∙◌, sym, inl, inr, arith}
 use Rattle.std.proofs.lemmas.Bool.{cases_eq}
 use Rattle.tree_model.specs.Places.{holds, IsBelowAll, IsIncreasing}
 use Rattle.tree_model.proofs.Ordered.{holds-none, holds-cons_eq, holds-cons_ne}
+pub use Rattle.tree_model.proofs.TalliedRows.{IsBelowAll-with_rows as IsBelowAll-with, IsIncreasing-with_rows as IsIncreasing-with, map-with_rows as map-with}
 use Rattle.code_changes.specs.Changes.{IsIn, put, put_all, with_rows, without_rows}
 use Rattle.code_changes.proofs.Lists.{holds-nil, IsIn-cons, lt_of_IsIn, put-front, put_all-after}
 
 -- ---- both are parts of the list
-
-pub IsBelowAll-with : (v : ℕ) (counts xs : List ℕ) → IsBelowAll v xs → IsBelowAll v (with_rows counts xs)
-unfolding IsBelowAll with_rows
-IsBelowAll-with v [] xs above = tt
-IsBelowAll-with v (count ∷ counts) [] above = tt
-IsBelowAll-with v (zero ∷ counts) (x ∷ xs) above = IsBelowAll-with v counts xs above.1
-IsBelowAll-with v (suc count ∷ counts) (x ∷ xs) above = (above.0, IsBelowAll-with v counts xs above.1)
 
 pub IsBelowAll-without : (v : ℕ) (counts xs : List ℕ) → IsBelowAll v xs → IsBelowAll v (without_rows counts xs)
 unfolding IsBelowAll without_rows
@@ -21,13 +15,6 @@ IsBelowAll-without v [] xs above = tt
 IsBelowAll-without v (count ∷ counts) [] above = tt
 IsBelowAll-without v (zero ∷ counts) (x ∷ xs) above = (above.0, IsBelowAll-without v counts xs above.1)
 IsBelowAll-without v (suc count ∷ counts) (x ∷ xs) above = IsBelowAll-without v counts xs above.1
-
-pub IsIncreasing-with : (counts xs : List ℕ) → IsIncreasing xs → IsIncreasing (with_rows counts xs)
-unfolding IsIncreasing with_rows
-IsIncreasing-with [] xs up = tt
-IsIncreasing-with (count ∷ counts) [] up = tt
-IsIncreasing-with (zero ∷ counts) (x ∷ xs) up = IsIncreasing-with counts xs up.1
-IsIncreasing-with (suc count ∷ counts) (x ∷ xs) up = (IsBelowAll-with x counts xs up.0, IsIncreasing-with counts xs up.1)
 
 none_in : {P : Type 0} (n : ℕ) → IsIn n [] → P
 none_in n h = absurd (let e : false ≡ true = sym (holds-nil n) ∙ h in cc)
@@ -85,12 +72,3 @@ put_all-without (zero ∷ counts) (x ∷ xs) up many = ap (put x) (put_all-witho
 put_all-without (suc count ∷ counts) (x ∷ xs) up many =
     put_all-after x (without_rows counts xs) (with_rows counts xs) (IsBelowAll-without x counts xs up.0)
     ∙ ap (λ (ys : List ℕ). x ∷ ys) (put_all-without counts xs up.1 (omega arith))
-
--- ---- of a mapped list
-
-pub map-with : {A B : Type 0} (f : A → B) (counts : List ℕ) (xs : List A) → map f (with_rows counts xs) ≡ with_rows counts (map f xs)
-unfolding with_rows
-map-with f [] xs = refl
-map-with f (count ∷ counts) [] = refl
-map-with f (zero ∷ counts) (x ∷ xs) = map-with f counts xs
-map-with f (suc count ∷ counts) (x ∷ xs) = ap (λ (ys : List _). f x ∷ ys) (map-with f counts xs)

@@ -3,6 +3,7 @@ use Rattle.std.specs.Prelude.{◌≡◌, ℕ, zero, suc, Bool, true, false, ◌=
 use Rattle.tree_model.specs.declared.Place.{Place}
 use Rattle.tree_model.specs.declared.Place.TheVariants.{Found, Gap}
 use Rattle.tree_model.specs.Places.{holds, place, IsIncreasing}
+unfoldable pub use Rattle.tree_model.specs.Tallies.{with_rows}
 use Rattle.path_code.specs.declared.moves.Recode.{Recode}
 use Rattle.path_code.specs.Sums.{unless, Sum}
 
@@ -67,14 +68,7 @@ pub record Fits (s : Sum) (codes : List ℕ) : Type 0 where
   pub in_order : IsIncreasing (images s codes)
   pub apart : (code : ℕ) → IsIn code s.added → holds code (images s codes) ≡ false
 
--- of a list beside counts the elements with a count above 0
-unfoldable pub with_rows : {A : Type 0} → List ℕ → List A → List A
-with_rows [] xs = []
-with_rows (count ∷ counts) [] = []
-with_rows (zero ∷ counts) (x ∷ xs) = with_rows counts xs
-with_rows (suc count ∷ counts) (x ∷ xs) = x ∷ with_rows counts xs
-
--- and those with count 0
+-- of a list beside counts the elements with count 0
 unfoldable pub without_rows : {A : Type 0} → List ℕ → List A → List A
 without_rows [] xs = []
 without_rows (count ∷ counts) [] = []

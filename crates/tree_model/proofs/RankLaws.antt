@@ -2,19 +2,21 @@
 use Rattle.std.proofs.Common.{◌≡◌, ℕ, suc, zero, ◌+◌, ◌<◌, Bool, true, false, not, ◌&&◌, ltb, leb, ◌≢◌, ne_eqb, List, [], ◌∷◌, ◌++◌, length, map, get_or, remove, slice_get, Option, Some, None, refl, ap, ap₂, ◌∙◌, sym, subst, inl, inr, arith, lt-ltb}
 use Rattle.std.specs.List.{range_with_len}
 use Rattle.std.proofs.lemmas.Bool.{cases_Bool}
+use Rattle.std.proofs.lemmas.List.Edits.{length-insert, get_or-insert_at}
 use Rattle.tree_model.specs.declared.Place.{Place}
 use Rattle.tree_model.specs.declared.Place.TheVariants.{Found, Gap}
 use Rattle.tree_model.specs.Trees.{size}
-use Rattle.tree_model.specs.Places.{one_if, IsIncreasing}
+use Rattle.tree_model.specs.Places.{place, one_if, IsIncreasing}
 use Rattle.tree_model.specs.Items.{Item, one_more, one_less, values, change_at, add_item, has_rows, is_dead, gone, drop_item, is_sparse, swept}
-use Rattle.tree_model.specs.Columns.{Column, items_of, drop_one, Operation, Add, Drop, Lay, apply, apply_all, map_column, map_operation}
+use Rattle.tree_model.specs.Columns.{Column, items_of, add, drop_one, Operation, Add, Drop, Lay, apply, apply_all, map_column, map_operation}
 use Rattle.tree_model.specs.Sums.{bodies, tagged_column, blank, origins, IsRising}
 use Rattle.tree_model.specs.Carried.{is_origin, carried}
-use Rattle.tree_model.specs.Ranks.{rank_added, one_lower, rank_gone, is_gone, rank_dropped, rank_after, rank_after_all, stays_gone, stays_swept, stays_dropped, stays_after, stays_after_all}
-use Rattle.tree_model.specs.RowLaws.{RankIs, CarriedBoth, BlindRanks, StandsAfter, ValueFollows}
+use Rattle.tree_model.specs.Ranks.{rank_at, rank_added, one_lower, rank_gone, is_gone, rank_dropped, rank_after, rank_after_all, stays_gone, stays_swept, stays_dropped, stays_after, stays_after_all}
+use Rattle.tree_model.specs.RowLaws.{RankIs, CarriedBoth, BlindRanks, StandsAfter, ValueFollows, NewRowStands}
 use Rattle.tree_model.proofs.Ways.{length-inorder}
-use Rattle.tree_model.proofs.Changes.{length-change_at}
-use Rattle.tree_model.proofs.Ordered.{found_of_place, place-IsFound}
+use Rattle.tree_model.proofs.Changes.{length-change_at, values-add_found, values-add_gap}
+use Rattle.tree_model.proofs.ColumnOrder.{operations_keep_order}
+use Rattle.tree_model.proofs.Ordered.{found_of_place, place-IsFound, found_within, gap_within}
 use Rattle.tree_model.proofs.Kept.{items-add, items-drop, items-lay}
 use Rattle.tree_model.proofs.Summed.{origins-append, origins-nothing, origins-gap, length-origins, map_column-tagged_zero}
 use Rattle.tree_model.proofs.Pinned.{origins-bodies}
@@ -198,6 +200,33 @@ values_follow v same_time operations c rank d up stays =
     ∙ sym (values-at v (items_of c) rank d some_body was) in
     let found = place-IsFound (values v (items_of after)) (get_or (values v (items_of c)) rank d) k d up (omega (arith, among, length-values v (items_of after))) value in
     record { value = value; smaller = (found_of_place (values v (items_of after)) (get_or (values v (items_of c)) rank d) k found).0; found = found }
+
+new_value : {B : Type 0} (v : B → ℕ) (b : B) (items : List (Item B)) (d : ℕ) (p : Place) → place (values v items) (v b) ≡ p → IsIncreasing (values v items)
+    → (rank_at p < length (values v (add_item p b items))) × (get_or (values v (add_item p b items)) (rank_at p) d ≡ v b)
+unfolding rank_at
+new_value v b items d (Found rank) at up =
+    let same = values-add_found v rank b items in
+    let here = found_within (values v items) (v b) rank d up at in
+    (omega (arith, here.0, ap length same), ap (λ (xs : List ℕ). get_or xs rank d) same ∙ here.1)
+new_value v b items d (Gap rank) at up =
+    let after = values-add_gap v rank b items in
+    let here = gap_within (values v items) (v b) rank at in
+    (omega (arith, here, length-insert (values v items) rank (v b) here, ap length after), ap (λ (xs : List ℕ). get_or xs rank d) after ∙ get_or-insert_at (values v items) rank (v b) d here)
+
+pub new_rows_stand : {B : Type 0} (v : B → ℕ) (b : B) (c : Column B) (d : ℕ) → IsIncreasing (values v (items_of c)) → NewRowStands B v (place (values v (items_of c)) (v b)) b (add (place (values v (items_of c)) (v b)) b c) d
+new_rows_stand {B} v b c d up =
+    let p = place (values v (items_of c)) (v b) in
+    let after = add p b c in
+    let items = items-add p b c in
+    let new = new_value v b (items_of c) d p refl up in
+    let value : get_or (values v (items_of after)) (rank_at p) d ≡ v b = ap (λ (xs : List (Item B)). get_or (values v xs) (rank_at p) d) items ∙ new.1 in
+    let many = ap (λ (xs : List (Item B)). length (values v xs)) items in
+    let within : rank_at p < length (values v (items_of after)) = omega (arith, new.0, many) in
+    record {
+      among = omega (arith, within, length-values v (items_of after), length-items after);
+      value = value;
+      found = place-IsFound (values v (items_of after)) (v b) (rank_at p) d ((operations_keep_order v c up).added b) within value;
+    }
 
 -- ---- an item that some row still has
 

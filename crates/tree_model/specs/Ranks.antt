@@ -13,6 +13,11 @@ unfoldable pub rank_added : Place → ℕ → ℕ
 rank_added (Found at) rank = rank
 rank_added (Gap at) rank = one_if (nat_le at rank) rank
 
+-- the rank at which the item of a row that came in at a place stands then
+unfoldable pub rank_at : Place → ℕ
+rank_at (Found at) = at
+rank_at (Gap at) = at
+
 unfoldable pub one_lower : Bool → ℕ → ℕ
 one_lower true rank = rank - 1
 one_lower false rank = rank

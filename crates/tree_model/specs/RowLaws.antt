@@ -1,13 +1,14 @@
 -- How rows follow their items under operations: the statements of laws that this crate's functions without a body prove.
 use Rattle.std.specs.Prelude.{◌≡◌, ℕ, ◌<◌, Bool, true, false, ◌&&◌, List, [], ◌∷◌, ◌++◌, map, get_or, Option, Some, None}
+use Rattle.tree_model.specs.declared.Place.{Place}
 use Rattle.tree_model.specs.declared.Place.TheVariants.{Found, Gap}
 use Rattle.tree_model.specs.Trees.{size}
 use Rattle.tree_model.specs.Places.{below, place, IsIncreasing}
 use Rattle.tree_model.specs.Items.{Item, one_less, values, change_at}
-use Rattle.tree_model.specs.Columns.{Column, empty_column, items_of, Operation, Add, Drop, apply_all, map_column, map_operation}
+use Rattle.tree_model.specs.Columns.{Column, empty_column, items_of, add, Operation, Add, Drop, apply_all, map_column, map_operation}
 use Rattle.tree_model.specs.Sums.{origins, composed, IsRising}
 use Rattle.tree_model.specs.Carried.{is_origin, carried}
-use Rattle.tree_model.specs.Ranks.{rank_after, rank_after_all, stays_after, stays_after_all}
+use Rattle.tree_model.specs.Ranks.{rank_at, rank_after, rank_after_all, stays_after, stays_after_all}
 
 -- ---- ranks
 
@@ -72,6 +73,15 @@ pub record ValueFollows (before after : List ℕ) (origins_are : List (Option �
 
 abbrev pub ValuesFollow : Type 0 → Type 0
 ValuesFollow B = (v : B → ℕ) (same_time : Bool) (operations : List (Operation B)) (c : Column B) (rank d : ℕ) → IsIncreasing (values v (items_of (apply_all same_time operations c))) → is_origin rank (origins same_time operations c) ≡ true → ValueFollows (values v (items_of c)) (values v (items_of (apply_all same_time operations c))) (origins same_time operations c) rank d
+
+-- a row that came in at the place of its value has the item with this value
+pub record NewRowStands (B : Type 0) (v : B → ℕ) (p : Place) (b : B) (after : Column B) (d : ℕ) : Type 0 where
+  pub among : rank_at p < size after.tree
+  pub value : get_or (values v (items_of after)) (rank_at p) d ≡ v b
+  pub found : place (values v (items_of after)) (v b) ≡ Found (rank_at p)
+
+abbrev pub NewRowsStand : Type 0 → Type 0
+NewRowsStand B = (v : B → ℕ) (b : B) (c : Column B) (d : ℕ) → IsIncreasing (values v (items_of c)) → NewRowStands B v (place (values v (items_of c)) (v b)) b (add (place (values v (items_of c)) (v b)) b c) d
 
 -- ---- worked examples: the items 10, 30, 40 with a row each
 

@@ -1,6 +1,6 @@
 //! Laws of rows under the operations on a column: which item a row has after them. Each function is empty: its contract is
 //! the law.
-ghost use Rattle.tree_model.specs.RowLaws.{CarriedAppends, CarriedComposes, CarriedKeepsOrder, CarriedOfNothing, CarriedTellsRank, RankAfterOperation, RankAfterOperations, RanksAreBlind, RanksOfSwept, RanksOfThree, RowsKeepItem, ValuesFollow};
+ghost use Rattle.tree_model.specs.RowLaws.{CarriedAppends, CarriedComposes, CarriedKeepsOrder, CarriedOfNothing, CarriedTellsRank, NewRowsStand, RankAfterOperation, RankAfterOperations, RanksAreBlind, RanksOfSwept, RanksOfThree, RowsKeepItem, ValuesFollow};
 
 /// An item that stays after operations stands at the rank that `carried` tells, and nowhere else.
 pub fn carried_tells_rank<B>()
@@ -53,6 +53,11 @@ pub fn ranks_are_blind<B, C>()
 /// tells.
 pub fn values_follow<B>()
     ensures { ValuesFollow B }
+{}
+
+/// A row that came in at the place of its value has the item with this value, found at the rank that `rank_at` tells.
+pub fn new_rows_stand<B>()
+    ensures { NewRowsStand B }
 {}
 
 /// A worked example: the ranks of three items after a new one, and after one that goes in same-time mode.

@@ -1,8 +1,8 @@
 -- What the operations do in each mode, and that they keep what the mode adds.
-use Rattle.std.proofs.Common.{◌≡◌, ℕ, Bool, true, false, [], ◌∷◌, refl, ap, sym, subst}
+use Rattle.std.proofs.Common.{◌≡◌, ℕ, Bool, false, [], ◌∷◌, refl, sym, subst}
 use Rattle.mope_base.specs.declared.body.Body.{Body}
 use Rattle.tree_model.specs.declared.Place.{Place}
-use Rattle.tree_model.specs.Columns.{Column, empty_column, Add, Lay, add, lay, drop_one, apply, apply_all, map_operation}
+use Rattle.tree_model.specs.Columns.{Column, Add, Lay, add, lay, drop_one, apply, apply_all, map_operation}
 use Rattle.tree_model.specs.Sums.{blank, origins}
 use Rattle.tree_model.specs.ColumnLaws.{SuitsMode}
 use Rattle.tree_model.proofs.Suits.{SuitsMode-add, SuitsMode-drop, SuitsMode-lay, SuitsMode-empty}

@@ -5,7 +5,6 @@ pub mod RowLists
 pub mod Sweeps
 pub mod RowDrops
 pub mod LowerRows
-pub mod OneItem
 pub mod Stopping
 pub mod CodeLists
 pub mod WalkedPlaces

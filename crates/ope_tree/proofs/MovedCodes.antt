@@ -1,10 +1,9 @@
 -- The lists of codes before and after an item is taken out of a tree.
-use Rattle.std.proofs.Common.{◌≡◌, ℕ, suc, ◌+◌, ◌-◌, ◌<◌, ◌≤◌, max, List, [], ◌∷◌, ◌++◌, length, refl, ap, ◌∙◌, sym, subst, arith}
+use Rattle.std.proofs.Common.{◌≡◌, ℕ, suc, ◌<◌, List, [], ◌∷◌, ◌++◌, length, refl, ap, ◌∙◌, sym, arith}
 use Rattle.tree_model.specs.declared.Side.{Side}
 use Rattle.tree_model.specs.declared.Side.TheVariants.{Left, Right}
-use Rattle.tree_model.specs.Trees.{Tree, leaf, node, size, height}
+use Rattle.tree_model.specs.Trees.{Tree, leaf, node, size}
 use Rattle.tree_model.specs.Removal.{first_or, without_first, joined}
-use Rattle.path_code.specs.declared.moves.Recode.{Recode}
 use Rattle.code_changes.specs.Removal.{codes_along, moved_up, first_moved, joined_moved, removal_moved}
 use Rattle.code_changes.proofs.Shifted.{length-codes_along}
 

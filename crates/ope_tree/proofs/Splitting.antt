@@ -1,5 +1,5 @@
 -- The codes of a tree: those left of a part, those of the part, and those right of it.
-use Rattle.std.proofs.Common.{◌≡◌, ℕ, ◌+◌, ◌-◌, ◌<◌, ◌≤◌, Bool, true, false, eqb, List, [], ◌∷◌, ◌++◌, length, take, drop, insert, remove, get_or, refl, ap, ap₂, ◌∙◌, sym, arith, append_assoc, append-nil, eq-eqb, length-take-le}
+use Rattle.std.proofs.Common.{◌≡◌, ℕ, ◌+◌, ◌-◌, ◌<◌, ◌≤◌, false, List, [], ◌∷◌, ◌++◌, length, take, drop, insert, remove, get_or, refl, ap, ap₂, ◌∙◌, sym, arith, append_assoc, append-nil, length-take-le}
 use Rattle.std.proofs.lemmas.List.{length-append, take-append-drop, get_or-append-add}
 use Rattle.std.proofs.lemmas.List.Edits.{length-remove, remove-append_left, remove-append_right, insert-append_right, get_or-insert_at}
 use Rattle.std.proofs.Math.ListN.{get_or-append}
@@ -15,8 +15,7 @@ use Rattle.tree_model.proofs.Ways.{length-inorder}
 use Rattle.tree_model.specs.Items.{new_item}
 use Rattle.tree_model.specs.Columns.{Column, Add, add}
 use Rattle.path_code.specs.Codes.{code_of}
-use Rattle.path_code.specs.Sums.{unless, sum_of}
-use Rattle.path_code.specs.declared.moves.Recode.{Recode}
+use Rattle.path_code.specs.Sums.{sum_of}
 use Rattle.code_changes.specs.Changes.{differing}
 use Rattle.code_changes.specs.Columns.{codes_of as codes_by_rank}
 use Rattle.code_changes.proofs.Gaps.{gap_adds_item}

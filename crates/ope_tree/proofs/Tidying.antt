@@ -7,20 +7,18 @@ use Rattle.tree_model.specs.Trees.{Tree, inorder, size, height, path}
 use Rattle.tree_model.specs.Places.{IsBelowAll, IsIncreasing}
 use Rattle.tree_model.specs.Items.{Item, has_rows, live, is_dead, is_sparse}
 use Rattle.tree_model.specs.Removal.{remove_tree}
-use Rattle.tree_model.specs.Columns.{Column, taken_out, pruned}
+use Rattle.tree_model.specs.Columns.{taken_out, pruned}
 use Rattle.tree_model.proofs.Removals.{inorder-remove_tree, height-remove_tree}
 use Rattle.path_code.specs.Codes.{code_of}
 use Rattle.path_code.specs.declared.moves.Recode.{Recode}
 use Rattle.path_code.specs.Sums.{item_code, Sum}
 use Rattle.path_code.specs.SumLaws.{Increase}
-use Rattle.code_changes.specs.Changes.{differing}
 use Rattle.code_changes.specs.Columns.{codes_of}
 use Rattle.code_changes.specs.Removal.{removal_moved, removal_sum, goes_alone}
 use Rattle.code_changes.proofs.ItemCodes.{IsIncreasing-codes_of}
 use Rattle.code_changes.proofs.Leading.{same_sum}
 use Rattle.code_changes.proofs.Shifted.{removal_moves}
 use Rattle.code_changes.proofs.Removing.{rises-without, live-without, pruned-alone, alone-dead, alone-enough}
-use Rattle.ope_tree.specs.SweptSum.{swept_sum}
 use Rattle.ope_tree.specs.Dropped.{IsDropChange}
 use Rattle.ope_tree.proofs.Sweeps.{olds_rise, news_rise}
 use Rattle.ope_tree.proofs.RowDrops.{column}

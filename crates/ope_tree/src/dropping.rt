@@ -98,14 +98,7 @@ fn has_no_rows(nodes: &Arena, link: Option<u32>, rank: u32) -> bool
 }
 
 /// Whether the item of a rank, which has just lost a row, goes and the tree isn't balanced whole.
-fn leaves(
-    nodes: &Arena,
-    root: Option<u32>,
-    alive: u32,
-    most: u32,
-    rank: u32,
-    mode: Mode,
-) -> bool
+fn leaves(nodes: &Arena, root: Option<u32>, alive: u32, most: u32, rank: u32, mode: Mode) -> bool
     requires link { IsLink nodes.now root }
     requires alive { alive ≡ live (inorder (tree_of nodes.now root)) }
     ensures { result ≡ goes_alone (is_same_time mode) most (inorder (tree_of nodes.now root)) rank }

@@ -1,7 +1,7 @@
 //! The tree beside a plain program, which follows the rules on a recursive tree of its own.
 use super::*;
-use crate::tests::{next, put, take};
-use mope_base::OutOfMemory;
+use crate::tests::{again, next, put, take};
+use mope_base::{Mode, OutOfMemory};
 use std::alloc::Global;
 
 // A search tree of which only the number of rows of each item is known.
@@ -140,7 +140,46 @@ fn grown(alloc: Global, tree: Plain, rank: u64, deep: bool) -> Result<Growing, O
     }
 }
 
-fn lowered(alloc: Global, tree: Plain, rank: u64) -> Result<Plain, OutOfMemory> {
+// The first item and the tree without it. Its right tree moves up.
+#[derive(Drop)]
+struct First {
+    count: u32,
+    rest: Plain,
+}
+
+fn first_of(alloc: Global, left: Plain, count: u32, right: Plain) -> Result<First, OutOfMemory> {
+    match left {
+        Plain::Empty => Ok(First { count, rest: right }),
+        Plain::Node(lower, middle, upper) => {
+            let lower = Box::into_inner(lower);
+            let upper = Box::into_inner(upper);
+            let further = first_of(alloc, lower, middle, upper)?;
+            Ok(First {
+                count: further.count,
+                rest: node(alloc, further.rest, count, right)?,
+            })
+        }
+    }
+}
+
+// The two sides of an item that goes.
+fn joined(alloc: Global, left: Plain, right: Plain) -> Result<Plain, OutOfMemory> {
+    if size(&left) == 0 {
+        return Ok(right);
+    }
+    match right {
+        Plain::Empty => Ok(left),
+        Plain::Node(lower, count, upper) => {
+            let lower = Box::into_inner(lower);
+            let upper = Box::into_inner(upper);
+            let further = first_of(alloc, lower, count, upper)?;
+            node(alloc, left, further.count, further.rest)
+        }
+    }
+}
+
+// One row fewer at the item of a rank, which has one.
+fn lowered(alloc: Global, tree: Plain, rank: u64, mode: Mode) -> Result<Plain, OutOfMemory> {
     match tree {
         Plain::Empty => Ok(Plain::Empty),
         Plain::Node(left, count, right) => {
@@ -148,12 +187,33 @@ fn lowered(alloc: Global, tree: Plain, rank: u64) -> Result<Plain, OutOfMemory> 
             let left = Box::into_inner(left);
             let right = Box::into_inner(right);
             if rank < before {
-                node(alloc, lowered(alloc, left, rank)?, count, right)
-            } else if rank == before {
-                node(alloc, left, count.saturating_sub(1), right)
-            } else {
-                let right = lowered(alloc, right, rank - before - 1)?;
+                node(alloc, lowered(alloc, left, rank, mode)?, count, right)
+            } else if before < rank {
+                let right = lowered(alloc, right, rank - before - 1, mode)?;
                 node(alloc, left, count, right)
+            } else if mode == Mode::SameTime && count == 1 {
+                joined(alloc, left, right)
+            } else {
+                node(alloc, left, count.saturating_sub(1), right)
+            }
+        }
+    }
+}
+
+fn raised(alloc: Global, tree: Plain, rank: u64) -> Result<Plain, OutOfMemory> {
+    match tree {
+        Plain::Empty => Ok(Plain::Empty),
+        Plain::Node(left, count, right) => {
+            let before = size(&left);
+            let left = Box::into_inner(left);
+            let right = Box::into_inner(right);
+            if rank < before {
+                node(alloc, raised(alloc, left, rank)?, count, right)
+            } else if before < rank {
+                let right = raised(alloc, right, rank - before - 1)?;
+                node(alloc, left, count, right)
+            } else {
+                node(alloc, left, count.saturating_add(1), right)
             }
         }
     }
@@ -179,13 +239,36 @@ fn added(alloc: Global, column: Column, number: u64) -> Result<Column, OutOfMemo
     })
 }
 
-fn dropped(alloc: Global, column: Column, number: u64) -> Result<Column, OutOfMemory> {
+fn repeated(alloc: Global, column: Column, number: u64) -> Result<Column, OutOfMemory> {
     let Column { tree, most } = column;
     let items = size(&tree);
     if items == 0 {
         return Ok(Column { tree, most });
     }
-    let tree = lowered(alloc, tree, number % items)?;
+    let tree = raised(alloc, tree, number % items)?;
+    Ok(Column { tree, most })
+}
+
+fn has_rows(alloc: Global, tree: &Plain, rank: u64) -> Result<bool, OutOfMemory> {
+    let mut counts = Vec::new(alloc);
+    push_counts(tree, &mut counts)?;
+    match counts.get(rank as usize) {
+        None => Ok(false),
+        Some(count) => Ok(*count > 0),
+    }
+}
+
+fn dropped(alloc: Global, column: Column, number: u64, mode: Mode) -> Result<Column, OutOfMemory> {
+    let Column { tree, most } = column;
+    let items = size(&tree);
+    if items == 0 {
+        return Ok(Column { tree, most });
+    }
+    let rank = number % items;
+    if !has_rows(alloc, &tree, rank)? {
+        return Ok(Column { tree, most });
+    }
+    let tree = lowered(alloc, tree, rank, mode)?;
     let mut counts = Vec::new(alloc);
     push_counts(&tree, &mut counts)?;
     counts.retain(|count| *count > 0);
@@ -215,30 +298,48 @@ fn codes(alloc: Global, tree: &Tree) -> Result<Vec<u64>, OutOfMemory> {
     Ok(codes)
 }
 
-// Of the numbers, those that three divides drop a row, and the others insert an item.
+// Of six numbers two drop a row, in one mode or the other, one adds a row to an item, and three insert an item.
 #[test]
 fn codes_are_those_of_a_plain_tree(rt: HostRuntime) -> Result<(), OutOfMemory> {
     let alloc = rt.alloc();
-    let mut tree = Tree::new(alloc);
-    let mut plain = Column {
-        tree: Plain::Empty,
-        most: 0,
-    };
-    let mut state = 1;
-    for step in 0..400 {
-        let number = next(&mut state);
-        if number % 3 == 0 {
-            take(&mut tree, number)?;
-            plain = dropped(alloc, plain, number)?;
-        } else {
-            put(&mut tree, number)?;
-            plain = added(alloc, plain, number)?;
+    let modes = [
+        (Mode::Ordinary, Mode::Ordinary),
+        (Mode::SameTime, Mode::SameTime),
+        (Mode::Ordinary, Mode::SameTime),
+    ];
+    for (even, odd) in modes {
+        let mut tree = Tree::new(alloc);
+        let mut plain = Column {
+            tree: Plain::Empty,
+            most: 0,
+        };
+        let mut state = 1;
+        for step in 0..300 {
+            let number = next(&mut state);
+            match number % 6 {
+                0 => {
+                    take(&mut tree, number / 6, even)?;
+                    plain = dropped(alloc, plain, number / 6, even)?;
+                }
+                1 => {
+                    take(&mut tree, number / 6, odd)?;
+                    plain = dropped(alloc, plain, number / 6, odd)?;
+                }
+                2 => {
+                    again(&mut tree, number / 6)?;
+                    plain = repeated(alloc, plain, number / 6)?;
+                }
+                _ => {
+                    put(&mut tree, number / 6)?;
+                    plain = added(alloc, plain, number / 6)?;
+                }
+            }
+            assert!(rt;
+                codes(alloc, &tree)? == plain_codes(alloc, &plain)?,
+                "after step {step}"
+            );
+            assert_eq!(rt; u64::from(tree.max()), plain.most);
         }
-        assert!(rt;
-            codes(alloc, &tree)? == plain_codes(alloc, &plain)?,
-            "after step {step}"
-        );
-        assert_eq!(rt; u64::from(tree.max()), plain.most);
     }
     Ok(())
 }

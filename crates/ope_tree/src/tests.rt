@@ -17,21 +17,45 @@ pub(crate) fn put(tree: &mut Tree, number: u64) -> Result<Change, OutOfMemory> {
     )
 }
 
-// One row fewer at the item of a number, counted around, if it has one.
-pub(crate) fn take(tree: &mut Tree, number: u64) -> Result<(), OutOfMemory> {
+// One row more of the item of a number, counted around, if there is one and it has fewer than 1,000.
+pub(crate) fn again(tree: &mut Tree, number: u64) -> Result<(), OutOfMemory> {
     let len = tree.len();
     if len == 0 {
         return Ok(());
     }
-    let rank = (number % u64::from(len)) as u32;
-    let Some((_body, count)) = tree.item(rank) else {
-        return Ok(());
-    };
-    if count == 0 {
+    if len > 1000 {
         return Ok(());
     }
-    tree.drop_one(rank, Mode::Ordinary)?;
+    let rank = (number % u64::from(len)) as u32;
+    let Some((body, count)) = tree.item(rank) else {
+        return Ok(());
+    };
+    if count > 1000 {
+        return Ok(());
+    }
+    tree.insert_at(Place::Found(rank), body)?;
     Ok(())
+}
+
+// One row fewer at the item of a number, counted around, if it has one.
+pub(crate) fn take(
+    tree: &mut Tree,
+    number: u64,
+    mode: Mode,
+) -> Result<Option<Change>, OutOfMemory> {
+    let len = tree.len();
+    if len == 0 {
+        return Ok(None);
+    }
+    let rank = (number % u64::from(len)) as u32;
+    let Some((_body, count)) = tree.item(rank) else {
+        return Ok(None);
+    };
+    if count == 0 {
+        return Ok(None);
+    }
+    let change = tree.drop_one(rank, mode)?;
+    Ok(Some(change))
 }
 
 // The next of a sequence of pseudo-random numbers.

@@ -1,4 +1,4 @@
-use Rattle.std.proofs.Common.{false, ap, ◌∙◌, sym, subst, arith}
+use Rattle.std.proofs.Common.{ap, ◌∙◌, sym, subst, arith}
 use Rattle.mope_base.specs.Modes.{is_same_time}
 use Rattle.mope_base.specs.declared.body.Body.{Body}
 use Rattle.tree_model.specs.Trees.{Tree, inorder, size}

@@ -1,4 +1,4 @@
-use Rattle.std.proofs.Common.{◌≡◌, ◌<◌, ◌^◌, ◌&&◌, slice_get, ap, ◌∙◌, sym}
+use Rattle.std.proofs.Common.{◌≡◌, ◌<◌, ◌^◌, ◌&&◌, slice_get, ◌∙◌, sym}
 use Rattle.mope_base.specs.Modes.{is_same_time}
 use Rattle.tree_model.specs.Trees.{inorder}
 use Rattle.tree_model.specs.Items.{live, is_dead}

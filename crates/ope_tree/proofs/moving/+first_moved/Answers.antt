@@ -1,13 +1,12 @@
-use Rattle.std.proofs.Common.{◌≡◌, ◌+◌, ◌-◌, ◌<◌, ◌≤◌, max, ◌++◌, [], ◌∷◌, ℕ, suc, Option, Some, List, arith, sym, ap, ◌∙◌}
+use Rattle.std.proofs.Common.{◌≡◌, ℕ, suc, Option, List, arith, ap, ◌∙◌}
 use Rattle.tree_model.specs.declared.Side.{Side}
-use Rattle.tree_model.specs.declared.Side.TheVariants.{Left, Right}
-use Rattle.tree_model.specs.Trees.{Tree, leaf, node, height, size}
+use Rattle.tree_model.specs.Trees.{Tree, height}
 use Rattle.tree_model.specs.Items.{Item}
 use Rattle.mope_base.specs.declared.body.Body.{Body}
 use Rattle.path_code.specs.Ways.{way}
 use Rattle.ope_tree.specs.Nodes.{item_of, tree_of, reach}
 use Rattle.ope_tree.proofs.Builders.{reach-older}
-use Rattle.ope_tree.proofs.LinkCases.{no_tree, node_of_link, some_items}
+use Rattle.ope_tree.proofs.LinkCases.{no_tree, node_of_link}
 use Rattle.code_changes.specs.Removal.{first_moved}
 use Rattle.ope_tree.proofs.MovedCodes.{first-here, first-lower}
 use Rattle.ope_tree.proofs.moving.+first_moved.Goals as goal

@@ -1,14 +1,14 @@
-use Rattle.std.proofs.Common.{◌≡◌, ◌+◌, ◌-◌, ◌<◌, ◌≤◌, max, ◌++◌, [], ◌∷◌, ℕ, suc, Option, Some, List, arith, sym, ap, ◌∙◌}
+use Rattle.std.proofs.Common.{◌≡◌, ◌-◌, ◌++◌, [], ◌∷◌, ℕ, suc, Option, List, arith, sym, ap, ◌∙◌}
 use Rattle.tree_model.specs.declared.Side.{Side}
-use Rattle.tree_model.specs.declared.Side.TheVariants.{Left, Right}
-use Rattle.tree_model.specs.Trees.{Tree, leaf, node, height, size}
+use Rattle.tree_model.specs.declared.Side.TheVariants.{Right}
+use Rattle.tree_model.specs.Trees.{Tree, height, size}
 use Rattle.tree_model.specs.Items.{Item}
 use Rattle.mope_base.specs.declared.body.Body.{Body}
 use Rattle.path_code.specs.Ways.{way}
 use Rattle.ope_tree.specs.Nodes.{item_of, tree_of, reach}
 use Rattle.ope_tree.proofs.Builders.{reach-older}
-use Rattle.ope_tree.proofs.LinkCases.{no_tree, node_of_link, some_items}
-use Rattle.code_changes.specs.Removal.{joined_moved, removal_moved}
+use Rattle.ope_tree.proofs.LinkCases.{no_tree, node_of_link}
+use Rattle.code_changes.specs.Removal.{removal_moved}
 use Rattle.code_changes.proofs.Shifted.{moved-left, moved-here, moved-right}
 use Rattle.ope_tree.proofs.MovedCodes.{removal-leaf}
 use Rattle.ope_tree.proofs.moving.+removal_moved.Goals as goal

@@ -1,7 +1,7 @@
 use Rattle.std.proofs.Common.{◌∙◌, sym}
 use Rattle.path_code.specs.Ways.{way}
 use Rattle.ope_tree.specs.Nodes.{tree_of}
-use Rattle.ope_tree.proofs.MovedCodes.{pushed_after, pushed_after_long}
+use Rattle.ope_tree.proofs.MovedCodes.{pushed_after_long}
 use Rattle.ope_tree.proofs.moving.item_moved.Goals as goal
 
 pub differing-requires : goal.differing-requires

@@ -1,14 +1,11 @@
-use Rattle.std.proofs.Common.{◌≡◌, ◌+◌, ◌-◌, ◌<◌, ◌≤◌, max, ◌++◌, [], ◌∷◌, ℕ, suc, Option, Some, List, arith, sym, ap, ◌∙◌}
-use Rattle.tree_model.specs.declared.Side.{Side}
-use Rattle.tree_model.specs.declared.Side.TheVariants.{Left, Right}
-use Rattle.tree_model.specs.Trees.{Tree, leaf, node, height, size}
+use Rattle.std.proofs.Common.{◌≡◌, ℕ, suc, Option, arith, sym, ap, ◌∙◌}
+use Rattle.tree_model.specs.Trees.{Tree}
 use Rattle.tree_model.specs.Items.{Item}
 use Rattle.mope_base.specs.declared.body.Body.{Body}
 use Rattle.ope_tree.specs.Nodes.{item_of, tree_of, reach}
-use Rattle.ope_tree.proofs.Links.{IsLink-extended, tree_by-extended}
-use Rattle.ope_tree.specs.declared.nodes.Node.{Node}
-use Rattle.ope_tree.proofs.Builders.{reach-older, built_nothing, built_before, built_same, built_left_as, built_right_as}
-use Rattle.ope_tree.proofs.LinkCases.{no_tree, node_of_link, some_items}
+use Rattle.ope_tree.proofs.Links.{IsLink-extended}
+use Rattle.ope_tree.proofs.Builders.{reach-older, built_before, built_same, built_left_as}
+use Rattle.ope_tree.proofs.LinkCases.{no_tree, node_of_link}
 use Rattle.tree_model.specs.Removal.{without_first}
 use Rattle.ope_tree.proofs.removing.+without_first.Goals as goal
 

@@ -22,3 +22,4 @@ pub mod NormalForms
 pub mod NormalSums
 pub mod Halving
 pub mod Neutral
+pub mod NormalRemovals

@@ -14,9 +14,11 @@ use Rattle.path_code.specs.declared.moves.Recode.{Recode}
 use Rattle.path_code.specs.Sums.{item_code, Sum}
 use Rattle.path_code.specs.SumLaws.{Increase}
 use Rattle.code_changes.specs.Columns.{codes_of}
+use Rattle.code_changes.specs.Normal.{IsNormal}
 use Rattle.code_changes.specs.Removal.{removal_moved, removal_sum, goes_alone}
 use Rattle.code_changes.proofs.ItemCodes.{IsIncreasing-codes_of}
 use Rattle.code_changes.proofs.Leading.{same_sum}
+use Rattle.code_changes.proofs.NormalRemovals.{removal_normal}
 use Rattle.code_changes.proofs.Shifted.{removal_moves}
 use Rattle.code_changes.proofs.Removing.{rises-without, live-without, pruned-alone, alone-dead, alone-enough}
 use Rattle.ope_tree.specs.Dropped.{IsDropChange}
@@ -132,6 +134,6 @@ told_is t rank moved dropped added told =
     ∙ ap (λ (n : ℕ). n ∷ []) (told.spells ∙ ap code_of (told.leads ∙ ap (λ (w : List Side). w ++ path t (Found rank)) told.above)))
     told.none
 
-pub told_increases : {A : Type 0} (t : Tree A) (rank : ℕ) (moved : List Recode) (dropped added : List ℕ) → height t ≤ 63 → rank < size t → IsTold A t rank moved dropped added → Increase (record { moved = moved; dropped = dropped; added = added })
-told_increases t rank moved dropped added high within told =
-    subst (λ (s : Sum). Increase s) (sym (told_is t rank moved dropped added told)) (removal_increases t rank high within)
+pub told_normal : {A : Type 0} (t : Tree A) (rank : ℕ) (moved : List Recode) (dropped added : List ℕ) → height t ≤ 63 → rank < size t → IsTold A t rank moved dropped added → IsNormal (record { moved = moved; dropped = dropped; added = added })
+told_normal t rank moved dropped added high within told =
+    subst (λ (s : Sum). IsNormal s) (sym (told_is t rank moved dropped added told)) (removal_normal t rank high within (removal_increases t rank high within))

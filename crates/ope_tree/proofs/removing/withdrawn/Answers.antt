@@ -3,7 +3,7 @@ use Rattle.mope_base.specs.declared.body.Body.{Body}
 use Rattle.tree_model.specs.Items.{Item}
 use Rattle.path_code.specs.Ways.{way}
 use Rattle.ope_tree.specs.Nodes.{tree_of}
-use Rattle.ope_tree.proofs.Tidying.{IsTold, told_is, told_increases}
+use Rattle.ope_tree.proofs.Tidying.{IsTold, told_is, told_normal}
 use Rattle.ope_tree.proofs.removing.withdrawn.Goals as goal
 
 pub of-requires : goal.of-requires
@@ -24,7 +24,7 @@ of-requires c =
       leads = c.path_to.ensures;
       none = c.new.ensures.items;
     } in
-    told_increases t c.args.rank c.in_ok-moved.moved.items c.push.new.self.items c.new.result.items c.requires.short c.requires.is_rank told
+    told_normal t c.args.rank c.in_ok-moved.moved.items c.push.new.self.items c.new.result.items c.requires.short c.requires.is_rank told
 
 pub returns-clause-change : goal.returns-clause-change
 returns-clause-change c =

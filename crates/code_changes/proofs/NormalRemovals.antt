@@ -2,8 +2,7 @@
 use Rattle.std.proofs.Common.{◌≡◌, ℕ, suc, zero, ◌<◌, ◌≤◌, List, [], ◌∷◌, length, remove, get_or, refl, ap, ◌∙◌, sym, subst, arith}
 use Rattle.tree_model.specs.Trees.{Tree, size, height}
 use Rattle.tree_model.specs.Removal.{remove_tree}
-use Rattle.path_code.specs.declared.moves.Recode.{Recode}
-use Rattle.path_code.specs.Sums.{item_code, Sum}
+use Rattle.path_code.specs.Sums.{item_code}
 use Rattle.path_code.specs.SumLaws.{Increase}
 use Rattle.code_changes.specs.Changes.{differing, with_rows, without_rows}
 use Rattle.code_changes.specs.Columns.{codes_of}

@@ -1,3 +1,4 @@
+//! The top call: words in, status and report out.
 ghost use Rattle.std.specs.Prelude.{◌≡◌, ℕ, ◌≤◌, List, [], Some, IfOk, IfErr, MatchOption};
 ghost use Rattle.mope_base.specs.Faults.{Rose};
 ghost use Rattle.workload.specs.Report.{report};

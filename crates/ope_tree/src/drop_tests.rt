@@ -1,3 +1,4 @@
+//! Tests of drops.
 use super::*;
 use crate::tests::{again, put, take};
 use mope_base::{Mode, OutOfMemory};

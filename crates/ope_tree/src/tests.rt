@@ -1,3 +1,4 @@
+//! Tests of insertions and walks.
 use super::*;
 use mope_base::{Body, Mode, OutOfMemory};
 

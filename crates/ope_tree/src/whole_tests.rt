@@ -1,3 +1,4 @@
+//! Tests of whole rebuilds and of copies.
 use super::*;
 use mope_base::{Body, OutOfMemory};
 use path_code::{child, root};

@@ -1,3 +1,4 @@
+//! Tests of the parser.
 ghost use Rattle.std.specs.Prelude.{◌≡◌, IfOk, length};
 
 use crate::{Frame, ParseStop, Reason, is_blank_line, parse, print, read_frame};

@@ -1,3 +1,4 @@
+//! Tests of messages as bytes.
 ghost use Rattle.std.specs.Prelude.{◌≡◌, IfOk};
 
 use crate::{How, Reply, WireStop, is_reply, read_reply, read_request, write_reply, write_request};

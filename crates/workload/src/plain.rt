@@ -1,3 +1,4 @@
+//! Plain tables, on which answers are defined.
 use mope_base::Items;
 
 /// A row: its number, from 1 in its table and never used again, and its values in the order of the columns.

@@ -1,3 +1,4 @@
+//! Workloads, their scripts, and the answers and ends of transactions.
 use mope_base::{ColNo, Items, SessionNo, TableNo};
 use sql_text::{Name, Test};
 

@@ -1,3 +1,4 @@
+//! Tests of canonical lines.
 use crate::{Cond, Name, Order, Stmt, Test, What, print};
 use mope_base::{Items, OutOfMemory};
 use std::alloc::Global;

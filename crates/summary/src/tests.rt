@@ -1,0 +1,1 @@
+//! The public calls with ample memory, and worked examples of composing.

@@ -15,6 +15,7 @@ use Rattle.code_changes.proofs.After.{applied-dropped, applied-kept, image-comes
 use Rattle.code_changes.proofs.Orders.{nowhere, first_in, same_bool, IsBelowAll-members, IsIncreasing-rest, IsBelowAll-first, IsIncreasing-cons, InOrder, told_apart}
 use Rattle.code_changes.proofs.Becoming.{cases_Option, olds-cons, news-cons, olds-nil, news-nil, new_code-free, old_changes, changes_old, dropped_vanishes, vanishes_dropped, IsIncreasing-dropped_by, olds-up, new_code-by}
 use Rattle.code_changes.proofs.Both.{or_cases, after_cases, first_order, both_some}
+use Rattle.code_changes.proofs.Leading.{same_sum}
 use Rattle.code_changes.proofs.Told.{moved_kept, pairs_told}
 use Rattle.summary.specs.Candidates.{taken, given, others, candidates}
 
@@ -268,3 +269,17 @@ both_on-candidates s next codes normal up fit =
     ap₂ (λ (moved : List Recode) (dropped : List ℕ). let both : Sum = record { moved = moved; dropped = dropped; added = list_after next s.added } in both)
     (part_moved (applied_both s next) (candidates s next) codes c)
     (part_dropped (applied_both s next) (candidates s next) codes c)
+
+-- what is made of the candidates is the composition
+pub composed_is : (s next : Sum) (codes found : List ℕ) (moved : List Recode) (dropped added : List ℕ) → IsNormal s → IsNormal next → FitsInTurn s next codes → found ≡ candidates s next → moved ≡ moved_by (applied_both s next) found → dropped ≡ dropped_by (applied_both s next) found → added ≡ list_after next s.added → (let both : Sum = record { moved = moved; dropped = dropped; added = added } in both) ≡ both_on s next codes
+unfolding both_on
+composed_is s next codes found moved dropped added normal normal_next fit is moved_is dropped_is added_is =
+    let becomes = applied_both s next in
+    same_sum moved (moved_by becomes (candidates s next)) dropped (dropped_by becomes (candidates s next)) added (list_after next s.added)
+    (moved_is ∙ ap (moved_by becomes) is) (dropped_is ∙ ap (dropped_by becomes) is) added_is
+    ∙ both_on-candidates s next codes normal normal_next.increase.dropped fit
+
+-- the added codes of the later change and its images of the earlier one's
+pub added_after : (s next : Sum) (first second : List ℕ) → first ≡ next.added → second ≡ images next s.added → put_all first second ≡ list_after next s.added
+unfolding list_after
+added_after s next first second a b = ap₂ put_all a b

@@ -1,3 +1,4 @@
 pub mod Steps
 pub mod Unions
 pub mod Covering
+pub mod Emptiness

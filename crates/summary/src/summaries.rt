@@ -134,6 +134,6 @@ impl Summary {
     pub fn is_empty(&self) -> bool
         ensures { IsTrue result ↔ (self.now ≡ unchanged) }
     {
-        self.moved.is_empty() && self.dropped.is_empty() && self.added.is_empty()
+        self.moved().is_empty() && self.dropped().is_empty() && self.added().is_empty()
     }
 }

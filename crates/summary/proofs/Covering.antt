@@ -1,8 +1,8 @@
 -- Which codes two changes in turn may move or drop: of a list that they fit in turn, the others stay.
-use Rattle.std.proofs.Common.{◌≡◌, ◌≢◌, ◌⊎◌, ℕ, ◌<◌, Bool, true, false, ◌||◌, List, [], ◌∷◌, map, Option, Some, None, refl, ap, ap₂, ◌∙◌, sym, subst, inl, inr, arith}
+use Rattle.std.proofs.Common.{◌≡◌, ◌⊎◌, ℕ, Bool, true, false, ◌||◌, List, [], ◌∷◌, Option, Some, None, refl, ap, ap₂, ◌∙◌, sym, subst, inl, inr, arith}
 use Rattle.std.proofs.lemmas.Bool.{cases_eq, cases_Bool}
 use Rattle.tree_model.specs.Places.{holds, IsBelowAll, IsIncreasing}
-use Rattle.tree_model.proofs.Ordered.{holds-cons_eq, holds-cons_ne, IsIncreasing-nil}
+use Rattle.tree_model.proofs.Ordered.{holds-cons_eq, IsIncreasing-nil}
 use Rattle.path_code.specs.declared.moves.Recode.{Recode}
 use Rattle.path_code.specs.Sums.{unless, Sum}
 use Rattle.code_changes.specs.Changes.{IsIn, new_code, applied, images, put_all, list_after, Fits}
@@ -12,8 +12,8 @@ use Rattle.code_changes.proofs.Lists.{IsIn-cons, lt_of_IsIn, same_members}
 use Rattle.code_changes.proofs.Rows.{IsIn-rest}
 use Rattle.code_changes.proofs.Pairs.{new_code-here, new_code-past}
 use Rattle.code_changes.proofs.After.{applied-dropped, applied-kept, image-comes, image-of, IsIncreasing-put_all, holds-put_all}
-use Rattle.code_changes.proofs.Orders.{nowhere, first_in, same_bool, IsBelowAll-members, IsIncreasing-rest, IsBelowAll-first, IsIncreasing-cons, InOrder, told_apart}
-use Rattle.code_changes.proofs.Becoming.{cases_Option, olds-cons, news-cons, olds-nil, news-nil, new_code-free, old_changes, changes_old, dropped_vanishes, vanishes_dropped, IsIncreasing-dropped_by, olds-up, new_code-by}
+use Rattle.code_changes.proofs.Orders.{nowhere, first_in, same_bool, IsBelowAll-members, IsIncreasing-rest, IsBelowAll-first, IsIncreasing-cons, told_apart}
+use Rattle.code_changes.proofs.Becoming.{olds-cons, news-cons, olds-nil, news-nil, new_code-free, old_changes, changes_old, dropped_vanishes, vanishes_dropped, IsIncreasing-dropped_by, olds-up, new_code-by}
 use Rattle.code_changes.proofs.Both.{or_cases, after_cases, first_order, both_some}
 use Rattle.code_changes.proofs.Leading.{same_sum}
 use Rattle.code_changes.proofs.Told.{moved_kept, pairs_told}
@@ -234,13 +234,13 @@ not_given s codes n normal fits among free =
     elim (cases_Bool (holds n (given s))) [
       | inr other ↦ other
       | inl gives ↦ elim (given_cases s n gives) [
-          | inr new ↦ absurd (let e : true ≡ false = sym (image-of s codes n n among stays) ∙ fits.apart n new in cc)
-          | inl moved ↦
-              let from = new_of s.moved n (olds_rise s normal) moved in
-              let becomes = applied-kept s from.old (moved_kept s from.old normal from.among) ∙ ap (λ (m : ℕ). Some m) from.is in
-              let same = told_apart s codes (first_order s codes fits) from.old n n (old_among s codes fits from.old from.among) among becomes stays in
-              absurd (let e : true ≡ false = sym from.among ∙ ap (λ (m : ℕ). holds m (olds s.moved)) same ∙ (taken_no s n free).0 in cc)
-        ]
+        | inr new ↦ absurd (let e : true ≡ false = sym (image-of s codes n n among stays) ∙ fits.apart n new in cc)
+        | inl moved ↦
+            let from = new_of s.moved n (olds_rise s normal) moved in
+            let becomes = applied-kept s from.old (moved_kept s from.old normal from.among) ∙ ap (λ (m : ℕ). Some m) from.is in
+            let same = told_apart s codes (first_order s codes fits) from.old n n (old_among s codes fits from.old from.among) among becomes stays in
+            absurd (let e : true ≡ false = sym from.among ∙ ap (λ (m : ℕ). holds m (olds s.moved)) same ∙ (taken_no s n free).0 in cc)
+      ]
     ]
 
 others_stay : (s next : Sum) (codes : List ℕ) → IsNormal s → FitsInTurn s next codes → (n : ℕ) → IsIn n codes → holds n (candidates s next) ≡ false → applied_both s next n ≡ Some n

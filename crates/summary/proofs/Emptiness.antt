@@ -1,5 +1,5 @@
 -- The change that leaves all codes is the one whose lists are empty.
-use Rattle.std.proofs.Common.{◌≡◌, ℕ, zero, suc, Bool, true, false, ◌==◌, IsTrue, List, [], ◌∷◌, length, refl, ap, ◌∙◌, sym, subst, arith}
+use Rattle.std.proofs.Common.{◌≡◌, ℕ, true, false, ◌==◌, List, [], ◌∷◌, length, refl, ap, ◌∙◌, sym, subst, arith}
 use Rattle.std.proofs.lemmas.Bool.{eqb-true}
 use Rattle.path_code.specs.declared.moves.Recode.{Recode}
 use Rattle.path_code.specs.Sums.{Sum}

@@ -6,10 +6,9 @@ use Rattle.summary.proofs.carrying.parts_of.Goals as goal
 
 pub codes-init : goal.codes-init
 codes-init c =
-    let becomes = applied_both c.args.change.now c.args.next.now in
-    (
+    let becomes = applied_both c.args.change.now c.args.next.now in (
       ap (λ (xs : List Recode). xs ++ moved_by becomes c.args.codes.now) c.new-moved.ensures.items,
-      ap (λ (xs : List ℕ). xs ++ dropped_by becomes c.args.codes.now) c.new-dropped.ensures.items
+      ap (λ (xs : List ℕ). xs ++ dropped_by becomes c.args.codes.now) c.new-dropped.ensures.items,
     )
 
 pub codes-preserved : goal.codes-preserved
@@ -20,10 +19,9 @@ codes-preserved c =
     let code = get_or codes at 0 in
     let is = c.after_both-becomes.ensures in
     let next_moved = c.in_ok-push_pair.ensures ∙ ap (λ (xs : List Recode). c.codes.moved.items ++ xs) (moved_by-becomes becomes code c.after_both-becomes.result is) in
-    let next_dropped = c.in_ok-push_lost.ensures ∙ ap (λ (xs : List ℕ). c.codes.dropped.items ++ xs) (dropped_by-becomes becomes code c.after_both-becomes.result is) in
-    (
+    let next_dropped = c.in_ok-push_lost.ensures ∙ ap (λ (xs : List ℕ). c.codes.dropped.items ++ xs) (dropped_by-becomes becomes code c.after_both-becomes.result is) in (
       one_step (moved_by becomes) codes at 0 c.codes.moved.items c.push_pair.new.moved.items (omega (arith, c.codes-test.true)) (moved_by-split becomes) next_moved c.codes.invariant.0,
-      one_step (dropped_by becomes) codes at 0 c.codes.dropped.items c.push_lost.new.dropped.items (omega (arith, c.codes-test.true)) (dropped_by-split becomes) next_dropped c.codes.invariant.1
+      one_step (dropped_by becomes) codes at 0 c.codes.dropped.items c.push_lost.new.dropped.items (omega (arith, c.codes-test.true)) (dropped_by-split becomes) next_dropped c.codes.invariant.1,
     )
 
 pub returns-clause-moved : goal.returns-clause-moved

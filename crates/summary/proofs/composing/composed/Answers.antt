@@ -1,6 +1,5 @@
 use Rattle.std.proofs.Common.{◌≡◌, ℕ, List, ap, sym, subst, ◌∙◌}
 use Rattle.tree_model.specs.Places.{IsIncreasing}
-use Rattle.path_code.specs.declared.moves.Recode.{Recode}
 use Rattle.path_code.specs.Sums.{Sum}
 use Rattle.code_changes.specs.Changes.{images}
 use Rattle.code_changes.specs.Compositions.{FitsInTurn, applied_both, moved_by, dropped_by, both_on}

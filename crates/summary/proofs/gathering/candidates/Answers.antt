@@ -1,4 +1,4 @@
-use Rattle.std.proofs.Common.{◌≡◌, ℕ, List, ap₂, sym, subst, ◌∙◌}
+use Rattle.std.proofs.Common.{◌≡◌, ap₂, sym, subst, ◌∙◌}
 use Rattle.tree_model.specs.Places.{IsIncreasing}
 use Rattle.code_changes.specs.Changes.{put_all}
 use Rattle.summary.specs.Candidates.{taken, given, others, candidates}

@@ -1,5 +1,4 @@
-use Rattle.std.proofs.Common.{◌≡◌, ℕ, List, ap, ap₂, sym, subst, ◌∙◌}
-use Rattle.path_code.specs.declared.moves.Recode.{Recode}
+use Rattle.std.proofs.Common.{◌≡◌, ap, ap₂, sym, subst, ◌∙◌}
 use Rattle.tree_model.specs.Places.{IsIncreasing}
 use Rattle.code_changes.specs.Changes.{put_all}
 use Rattle.code_changes.specs.Normal.{news}

@@ -12,7 +12,7 @@ returns-then-is_empty-2 c =
       | then-is_empty w ↦
           let first : (length s.moved == 0) ≡ true = ap (λ (xs : List Recode). length xs == 0) (sym c.moved.ensures.value) ∙ sym c.is_empty.ensures ∙ w.if-is_empty.true in
           let second : (length s.dropped == 0) ≡ true =
-              ap (λ (xs : List ℕ). length xs == 0) (sym w.dropped.ensures.value) ∙ sym w.is_empty-then-is_empty.ensures ∙ sym w.value-is ∙ c.if-is_empty-2.true in
+          ap (λ (xs : List ℕ). length xs == 0) (sym w.dropped.ensures.value) ∙ sym w.is_empty-then-is_empty.ensures ∙ sym w.value-is ∙ c.if-is_empty-2.true in
           ((λ yes_. three_empty s first second (sym third ∙ yes_)), (λ e. third ∙ third_told s e))
       | else-is_empty w ↦ absurd (let e : false ≡ true = sym (w.value-is ∙ w.if-is_empty.false) ∙ c.if-is_empty-2.true in cc)
     ]
@@ -24,7 +24,7 @@ returns-else-is_empty-2 c =
     elim c.if-is_empty.branch [
       | then-is_empty w ↦
           let second : (length s.dropped == 0) ≡ false =
-              ap (λ (xs : List ℕ). length xs == 0) (sym w.dropped.ensures.value) ∙ sym w.is_empty-then-is_empty.ensures ∙ sym w.value-is ∙ no_ in
+          ap (λ (xs : List ℕ). length xs == 0) (sym w.dropped.ensures.value) ∙ sym w.is_empty-then-is_empty.ensures ∙ sym w.value-is ∙ no_ in
           ((λ yes_. absurd (let e : false ≡ true = sym no_ ∙ yes_ in cc)), (λ e. no_ ∙ second_full s second e))
       | else-is_empty w ↦
           let first : (length s.moved == 0) ≡ false = ap (λ (xs : List Recode). length xs == 0) (sym c.moved.ensures.value) ∙ sym c.is_empty.ensures ∙ w.if-is_empty.false in

@@ -1,6 +1,6 @@
-use Rattle.std.proofs.Common.{◌≡◌, ℕ, List, ap, sym, subst, ◌∙◌}
+use Rattle.std.proofs.Common.{◌≡◌, ap, sym, subst, ◌∙◌}
 use Rattle.path_code.specs.Sums.{Sum}
-use Rattle.code_changes.specs.Changes.{IsIn, applied, list_after, Fits}
+use Rattle.code_changes.specs.Changes.{applied, list_after, Fits}
 use Rattle.code_changes.specs.Compositions.{applied_both, both_on}
 use Rattle.code_changes.proofs.Both.{both_added, both_compose}
 use Rattle.summary.proofs.Steps.{IfOk-map}

@@ -14,7 +14,7 @@ use Rattle.code_changes.proofs.Images.{images-dropped, images-kept}
 
 -- ---- a number put into a list
 
-put-held : (n : ℕ) (xs : List ℕ) → holds n xs ≡ true → put n xs ≡ xs
+pub put-held : (n : ℕ) (xs : List ℕ) → holds n xs ≡ true → put n xs ≡ xs
 unfolding put put_at_place place placed
 put-held n xs held = rw held refl
 

@@ -194,7 +194,7 @@ both_compose s next codes fit =
 -- ---- in normal form
 
 -- the later one's images of the earlier one's added codes increase
-IsIncreasing-images_added : (s next : Sum) (codes : List ℕ) → IsNormal s → FitsInTurn s next codes → IsIncreasing (images next s.added)
+pub IsIncreasing-images_added : (s next : Sum) (codes : List ℕ) → IsNormal s → FitsInTurn s next codes → IsIncreasing (images next s.added)
 IsIncreasing-images_added s next codes normal fit =
     in_order next s.added normal.increase.added (λ a b new_a new_b in_a in_b.
     first_order next (list_after s codes) fit.later a b new_a new_b (after_added s codes a in_a) (after_added s codes b in_b))

@@ -50,7 +50,7 @@ olds-none : {P : Type 0} (x : Recode) (xs : List Recode) → olds (x ∷ xs) ≡
 unfolding olds
 olds-none x xs same = absurd (cc)
 
-pairs_told : (xs ys : List Recode) → IsIncreasing (olds xs) → olds xs ≡ olds ys → ((n : ℕ) → IsIn n (olds xs) → new_code xs n ≡ new_code ys n) → xs ≡ ys
+pub pairs_told : (xs ys : List Recode) → IsIncreasing (olds xs) → olds xs ≡ olds ys → ((n : ℕ) → IsIn n (olds xs) → new_code xs n ≡ new_code ys n) → xs ≡ ys
 pairs_told [] [] up same news = refl
 pairs_told [] (y ∷ ys) up same news = olds-none y ys (sym same)
 pairs_told (x ∷ xs) [] up same news = olds-none x xs same

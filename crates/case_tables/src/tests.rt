@@ -1,3 +1,4 @@
+//! Tests of tables of kinds and of fields, with ample memory.
 use crate::{Cut, Field, Kind, check_kinds, put_fields, take_fields};
 use std::alloc::{AllocError, Global};
 use std::process::Abort;

@@ -44,11 +44,11 @@ left_none bytes from into place piece count same bound some room none =
 
 -- ---- the reading of a whole input
 
--- what stands at each turn: the bytes so far were taken, they are not too many, and the count of faults did not fall
+-- what stands at each turn: the bytes so far were taken, they are not too many, and the count of faults stayed
 pub record ReadSoFar (old now : Option (List ℕ)) (before faults most room : ℕ) (bytes : List ℕ) : Type 0 where
   pub taken : Consumes old now bytes
   pub within : length bytes ≤ most
-  pub later : before ≤ faults
+  pub stayed : faults ≡ before
   pub chunk : 0 < room
 
 pub Consumes-added : (a b c : Option (List ℕ)) (had has : List ℕ) (most count : ℕ) → Consumes a b had → AddsPiece b c had has most count → Consumes a c has
@@ -97,11 +97,11 @@ AnswersLength-stopped (Some xs) b before now most OutOfMemory s = tt
 
 -- ---- the writing of a whole text
 
--- what stands at each turn: the first bytes of the text were written, and the count of faults did not fall
+-- what stands at each turn: the first bytes of the text were written, and the count of faults stayed
 pub record WrittenSoFar (old now : Option (List ℕ)) (before faults : ℕ) (text : List ℕ) (done : ℕ) : Type 0 where
   pub appended : Appends old now (take done text)
   pub within : done ≤ length text
-  pub later : before ≤ faults
+  pub stayed : faults ≡ before
 
 pub Appends-more : (a b c : Option (List ℕ)) (text : List ℕ) (done n : ℕ) → Appends a b (take done text) → Appends b c (take n (drop done text))
     → Appends a c (take (done + n) text)

@@ -29,6 +29,13 @@ StopsFor old new before now most Failed = Rose before now × TakesAtMost old new
 StopsFor old new before now most TooLong = TakesExactly old new (most + 1)
 StopsFor old new before now most OutOfMemory = TakesAtMost old new (most + 1)
 
+-- the count of faults rose where a read failed, and else it stayed
+abbrev pub CountsFaults : {T : Type 0} → (before now : ℕ) → Result T ReadStop → Type 0
+CountsFaults before now (Ok got) = now ≡ before
+CountsFaults before now (Err Failed) = Rose before now
+CountsFaults before now (Err TooLong) = now ≡ before
+CountsFaults before now (Err OutOfMemory) = now ≡ before
+
 -- the answer to an input of these bytes: all of them if they are at most so many, and that they are too many if not, unless the count of faults rose or memory did not suffice
 abbrev pub AnswersLength : (before now most : ℕ) (left : List ℕ) → Result (List ℕ) ReadStop → Type 0
 AnswersLength before now most left (Ok bytes) = (bytes ≡ left) × (length left ≤ most)

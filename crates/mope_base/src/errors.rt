@@ -1,3 +1,4 @@
+//! The errors that say only that a thing failed.
 ghost use Rattle.std.specs.Prelude.{◌≡◌};
 
 use std::alloc::{AllocError, AllocFailed};

@@ -1,3 +1,4 @@
+//! The list type that contracts see as its elements.
 ghost use Rattle.std.specs.Prelude.{◌≡◌, [], ◌∷◌, ◌++◌, OnOk, OnErr};
 
 use crate::OutOfMemory;

@@ -1,3 +1,4 @@
+//! A sink in memory, whose failures are planned.
 ghost use Rattle.std.specs.Prelude.{◌≡◌, ℕ, ◌<◌, ◌≤◌, ◌↔◌, [], Some, IsErr, IsTrue, IfOk, MatchResult, length, take};
 ghost use Rattle.std.specs.Io.KnownBytes.{WriteAppends};
 ghost use Rattle.mope_base.specs.Faults.{HasCause};

@@ -1,3 +1,4 @@
+//! A source in memory, whose failures are planned.
 ghost use Rattle.std.specs.Prelude.{◌≡◌, ℕ, ◌<◌, ◌↔◌, [], ◌++◌, Some, IsErr, IsTrue, IfOk, MatchResult, OnErr, length, take, drop, min};
 ghost use Rattle.std.specs.Io.{ReadsAtMost};
 ghost use Rattle.std.specs.Io.KnownBytes.{ReadConsumes};

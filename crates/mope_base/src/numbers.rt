@@ -1,3 +1,4 @@
+//! Numbers of tables, columns and sessions, and the two modes.
 /// The number of a table, from 0 in the order of the declarations.
 #[derive(Clone, Copy, Debug, PartialEq, Eq)]
 pub struct TableNo(pub u8);

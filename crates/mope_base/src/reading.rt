@@ -1,7 +1,8 @@
+//! The reading of a whole input.
 ghost use Rattle.std.specs.Prelude.{◌≡◌, ℕ, ◌+◌, ◌-◌, ◌<◌, ◌≤◌, ◌++◌, IfOk, IfErr, IfSome, MatchResult, length, take, vec_len};
 ghost use Rattle.std.specs.Io.KnownBytes.{ReadConsumes};
 ghost use Rattle.mope_base.specs.Faults.{HasCause};
-ghost use Rattle.mope_base.specs.ReadAll.{TakesAll, StopsFor, AnswersLength, AddsPiece};
+ghost use Rattle.mope_base.specs.ReadAll.{TakesAll, StopsFor, AnswersLength, AddsPiece, CountsFaults};
 
 use crate::{Failed, Items, Source};
 use std::alloc::{AllocError, Global};
@@ -26,6 +27,7 @@ pub fn read_all<S: Source>(alloc: Global, input: &mut S, most: usize) -> Result<
     ensures stopped { IfErr result (StopsFor (S.left input.old) (S.left input.new)
         (S.faults input.old) (S.faults input.new) most) }
     ensures later { S.faults input.old ≤ S.faults input.new }
+    ensures counted { CountsFaults (S.faults input.old) (S.faults input.new) result }
     ensures complete { IfSome (S.left input.old) (λ left.
         AnswersLength (S.faults input.old) (S.faults input.new) most left result) }
 {
@@ -58,6 +60,7 @@ fn read_more<S: Source>(
     ensures err { IfErr result (StopsFor (S.left input.old) (S.left input.new)
         (S.faults input.old) (S.faults input.new) (most - length bytes.old.items)) }
     ensures later { S.faults input.old ≤ S.faults input.new }
+    ensures counted { CountsFaults (S.faults input.old) (S.faults input.new) result }
 {
     let spare = most - bytes.len();
     let want = spare.min(chunk.len() - 1) + 1;

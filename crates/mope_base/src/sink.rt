@@ -1,3 +1,4 @@
+//! What every sink promises.
 ghost use Rattle.std.specs.Prelude.{ℕ, ◌<◌, ◌≤◌, List, Option, IfOk, length};
 ghost use Rattle.std.specs.Io.KnownBytes.{WriteAppends};
 ghost use Rattle.mope_base.specs.Faults.{HasCause};

@@ -1,3 +1,4 @@
+//! How a run of the program ends.
 ghost use Rattle.std.specs.Prelude.{◌≡◌};
 ghost use Rattle.mope_base.specs.StatusCode.{code_of};
 

@@ -1,9 +1,12 @@
+//! Tests of lists and streams, with ample memory.
+ghost use Rattle.std.specs.Prelude.{◌≡◌, IfOk};
+
 use crate::{
     Failed, Items, MemorySink, MemorySource, OutOfMemory, ReadStop, Sink, Source, StdSink,
     StdSource, read_all, write_all,
 };
 use std::alloc::Global;
-use std::io::{self, Cursor, ErrorKind, Read};
+use std::io::{self, Cursor, ErrorKind, Read, Write};
 use std::test::Fail;
 
 #[derive(Drop)]
@@ -141,6 +144,63 @@ fn source_of_std(rt: HostRuntime) -> Result<(), Fail> {
     let mut broken = StdSource::new(Broken);
     let mut into = [0u8; 1];
     assert_eq!(rt; broken.read(&mut into), Err(Failed));
+    Ok(())
+}
+
+/// A stream that takes whatever it is given, or fails each time, and counts its calls.
+#[derive(Drop)]
+struct Counting {
+    calls: u64,
+    fails: bool,
+}
+
+impl Counting {
+    fn call(&mut self, length: usize) -> io::Result<usize>
+        ensures { IfOk result (λ n. n ≡ length) }
+    {
+        self.calls = self.calls.saturating_add(1);
+        if self.fails {
+            return Err(ErrorKind::NotConnected.into());
+        }
+        Ok(length)
+    }
+}
+
+impl Read for Counting {
+    fn read(&mut self, buf: &mut [u8]) -> io::Result<usize> {
+        self.call(buf.len())
+    }
+}
+
+impl Write for Counting {
+    fn write(&mut self, buf: &[u8]) -> io::Result<usize> {
+        self.call(buf.len())
+    }
+
+    fn flush(&mut self) -> io::Result<()> {
+        Ok(())
+    }
+}
+
+// No contract says how often an adapter calls the stream of std that it has: once, at any length.
+#[test]
+fn adapters_call_once(rt: HostRuntime) -> Result<(), Fail> {
+    for length in [1, 2, 63, 64, 4_096, 65_535, 65_536] {
+        for fails in [false, true] {
+            let mut bytes = vec![in rt.alloc(); 0u8; length]?;
+            let want = if fails { Err(Failed) } else { Ok(length) };
+            let mut read = Counting { calls: 0, fails };
+            let mut source = StdSource::new(&mut read);
+            assert_eq!(rt; source.read(&mut bytes), want, "reading {length}");
+            drop(source);
+            assert_eq!(rt; read.calls, 1, "reading {length}");
+            let mut written = Counting { calls: 0, fails };
+            let mut sink = StdSink::new(&mut written);
+            assert_eq!(rt; sink.write(&bytes), want, "writing {length}");
+            drop(sink);
+            assert_eq!(rt; written.calls, 1, "writing {length}");
+        }
+    }
     Ok(())
 }
 

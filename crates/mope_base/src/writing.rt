@@ -1,3 +1,4 @@
+//! The writing of a whole text.
 ghost use Rattle.std.specs.Prelude.{OnOk, OnErr};
 ghost use Rattle.std.specs.Io.KnownBytes.{Appends};
 ghost use Rattle.mope_base.specs.Faults.{HasCause};

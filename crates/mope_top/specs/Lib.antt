@@ -5,3 +5,4 @@ pub mod Batch
 pub mod FirstReport
 pub mod SealedItems
 pub mod SealedServer
+pub mod Counts

@@ -2,6 +2,7 @@ ghost use Rattle.std.specs.Prelude.{◌≡◌, ℕ, ◌≤◌, List, [], Some, I
 ghost use Rattle.mope_base.specs.Faults.{Rose};
 ghost use Rattle.workload.specs.Report.{report};
 ghost use Rattle.mope_top.specs.Batch.{AreRight, Ends, Headline, HasText, IsJudged, LeavesInput, Reports, StopsEarly, WritesOrMemory, usage_text, input_text};
+ghost use Rattle.mope_top.specs.Counts.{CountsFaults, CountsReads};
 ghost use Rattle.mope_top.specs.FirstForm.{IsFirstForm, IsNotFirstForm};
 ghost use Rattle.mope_top.specs.FirstRun.{workload_of};
 ghost use Rattle.mope_top.specs.Words.{AreNoWords, texts};
@@ -38,7 +39,8 @@ pub fn mope_batch<S: Source, K: Sink>(
     ensures wrong_words { AreNoWords (texts words.now)
         → LeavesInput result (S.left input.old) (S.left input.new) (S.faults input.old) (S.faults input.new) }
 
-    // No count of faults ever falls.
+    // No count of faults ever falls, and none rises but by the fault that the status tells.
+    ensures counted { CountsFaults result (S.faults input.old) (S.faults input.new) (K.faults out.old) (K.faults out.new) }
     ensures input_faults { S.faults input.old ≤ S.faults input.new }
     ensures out_faults { K.faults out.old ≤ K.faults out.new }
 
@@ -81,6 +83,7 @@ fn judge<S: Source>(alloc: Global, words: &[String], input: &mut S) -> Result<Ve
     ensures wrong_words { AreNoWords (texts words.now)
         → (S.left input.new ≡ S.left input.old) × (S.faults input.new ≡ S.faults input.old) }
     ensures faults { S.faults input.old ≤ S.faults input.new }
+    ensures counted { CountsReads result (S.faults input.old) (S.faults input.new) }
 {
     let Some(key) = read_words(words) else {
         return refusal(alloc, Status::Usage, b"error usage\n");

@@ -1,3 +1,4 @@
+//! The words of the command line.
 ghost use Rattle.std.specs.Prelude.{MatchOption};
 ghost use Rattle.mope_top.specs.Words.{AreWords, AreNoWords, texts};
 

@@ -1,3 +1,4 @@
+//! The statements of a workload of the first form.
 /// One statement of a workload in the first form.
 #[derive(Clone, Copy, PartialEq, Eq, Debug)]
 pub(crate) enum Statement {

@@ -1,3 +1,4 @@
+//! The text of the report of a workload of the first form.
 ghost use Rattle.std.specs.Prelude.{◌≡◌, ◌≤◌, ◌<◌, ◌+◌, ◌^◌, ◌++◌, ◌∷◌, [], length, IfOk, OnOk};
 ghost use Rattle.std.specs.String.{string_bytes};
 ghost use Rattle.mope_top.specs.FirstRun.{report_of, turns_of};

@@ -1,3 +1,4 @@
+//! The reader of workloads of the first form.
 ghost use Rattle.std.specs.Prelude.{◌≡◌, ◌≢◌, ◌≤◌, ◌<◌, ◌^◌, ◌++◌, ◌∷◌, [], ◌↔◌, ℕ, List, length, IfOk, IsTrue, MatchOption};
 ghost use Rattle.mope_top.specs.declared.first_form.Statement.{Statement};
 ghost use Rattle.mope_top.specs.FirstForm.{line_of, inserts, NumbersFit, IsEnd, IsFirstForm, IsNotFirstForm};

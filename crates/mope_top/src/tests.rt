@@ -1,3 +1,4 @@
+//! Tests of the top call, with ample memory.
 ghost use Rattle.std.specs.Prelude.{◌<◌};
 
 use crate::mope_batch;

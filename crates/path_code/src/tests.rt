@@ -1,3 +1,4 @@
+//! Tests of paths and codes.
 use super::*;
 
 #[test]

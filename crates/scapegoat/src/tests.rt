@@ -1,3 +1,4 @@
+//! Tests of the balance rules.
 use super::*;
 
 #[test]

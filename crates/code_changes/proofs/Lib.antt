@@ -10,3 +10,6 @@ pub mod Staying
 pub mod Gaps
 pub mod Sparse
 pub mod After
+pub mod RankedCodes
+pub mod Removing
+pub mod Shifted

@@ -68,7 +68,7 @@ stays-live (suc m ∷ rows) (r ∷ ranks) up many =
 
 -- ---- the sum
 
-sum-live : {A B : Type 0} (t : Tree A) (u : Tree B) (rows : List ℕ) → length rows ≡ size t → size u ≡ length (with_rows rows (range_with_len 0 (size t))) → sum_by_origins t u (map Some (with_rows rows (range_with_len 0 (size t)))) ≡ record { moved = differing (with_rows rows (codes_of t)) (codes_of u); dropped = without_rows rows (codes_of t); added = [] }
+pub sum-live : {A B : Type 0} (t : Tree A) (u : Tree B) (rows : List ℕ) → length rows ≡ size t → size u ≡ length (with_rows rows (range_with_len 0 (size t))) → sum_by_origins t u (map Some (with_rows rows (range_with_len 0 (size t)))) ≡ record { moved = differing (with_rows rows (codes_of t)) (codes_of u); dropped = without_rows rows (codes_of t); added = [] }
 unfolding sum_by_origins codes_of
 sum-live t u rows long many =
     let ranks = range_with_len 0 (size t) in

@@ -106,15 +106,19 @@ path-change_tree {A} f t rank p =
     ∙ ap (λ (u : Tree ℕ). path u p) (sym (change_tree-map erase f (λ (n : ℕ). n) (λ x. refl) t rank) ∙ change_tree-same (map_tree erase t) rank)
     ∙ path-map_tree erase t p
 
+pub item_code-change_tree : {A : Type 0} (f : A → A) (t : Tree A) (rank k : ℕ) → item_code (change_tree f t rank) k ≡ item_code t k
+unfolding item_code
+item_code-change_tree f t rank k = ap code_of (path-change_tree f t rank (Found k))
+
 map-same : {A : Type 0} (f g : ℕ → A) (xs : List ℕ) → ((n : ℕ) → f n ≡ g n) → map f xs ≡ map g xs
 map-same f g [] same = refl
 map-same f g (x ∷ xs) same = ap₂ (λ (y : _) (ys : List _). y ∷ ys) (same x) (map-same f g xs same)
 
 pub codes_of-change_tree : {A : Type 0} (f : A → A) (t : Tree A) (rank : ℕ) → codes_of (change_tree f t rank) ≡ codes_of t
-unfolding codes_of item_code
+unfolding codes_of
 codes_of-change_tree f t rank =
     ap (λ (n : ℕ). map (item_code (change_tree f t rank)) (range_with_len 0 n)) (size-change_tree f t rank)
-    ∙ map-same (item_code (change_tree f t rank)) (item_code t) (range_with_len 0 (size t)) (λ k. ap code_of (path-change_tree f t rank (Found k)))
+    ∙ map-same (item_code (change_tree f t rank)) (item_code t) (range_with_len 0 (size t)) (item_code-change_tree f t rank)
 
 -- the ranks in place of the bodies
 pub bodies-ranks : {B : Type 0} (c : Column B) → bodies (items_of (tagged_column c)) ≡ map Some (range_with_len 0 (size c.tree))

@@ -1,3 +1,5 @@
 pub mod Changes
 pub mod Columns
 pub mod Laws
+pub mod Removal
+pub mod RemovalLaws

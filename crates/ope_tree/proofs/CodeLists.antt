@@ -10,7 +10,7 @@ use Rattle.path_code.specs.Codes.{code_of}
 use Rattle.path_code.specs.Sums.{unless}
 use Rattle.path_code.specs.declared.moves.Recode.{Recode}
 use Rattle.code_changes.specs.Changes.{differing}
-use Rattle.ope_tree.specs.Listed.{codes_along}
+use Rattle.code_changes.specs.Removal.{codes_along}
 
 -- the codes of a tree after those of its left side and its own
 pub coded : {A : Type 0} (before left all : List ℕ) (way : List Side) (x : A) (l r t : Tree A) → left ≡ before ++ codes_along (way ++ Left ∷ []) l → all ≡ (left ++ code_of way ∷ []) ++ codes_along (way ++ Right ∷ []) r → t ≡ node l x r → all ≡ before ++ codes_along way t
@@ -27,14 +27,6 @@ coded before left all way x l r t el ea et =
 pub codes_along-leaf : {A : Type 0} (way : List Side) (t : Tree A) → t ≡ leaf → codes_along way t ≡ []
 unfolding codes_along
 codes_along-leaf way t e = ap (λ (u : Tree _). codes_along way u) e
-
-pub length-codes_along : {A : Type 0} (way : List Side) (t : Tree A) → length (codes_along way t) ≡ size t
-unfolding codes_along size
-length-codes_along way leaf = refl
-length-codes_along way (node l x r) =
-    let left = length-codes_along (way ++ Left ∷ []) l in
-    let right = length-codes_along (way ++ Right ∷ []) r in
-    length-append (codes_along (way ++ Left ∷ []) l) (code_of way ∷ codes_along (way ++ Right ∷ []) r) ∙ ap₂ (λ (m n : ℕ). m + suc n) left right
 
 -- ---- pairs that differ
 

@@ -45,16 +45,16 @@ sound_laid old new root link alive most count sound is_link laid =
     let same_items : inorder (tree_of new link) ≡ inorder (tree_of old root) = ap (λ (d : Column Body). inorder d.tree) laid ∙ items-lay c in
     record {
       is_link = is_link;
-      kept = subst (λ (d : Column Body). IsKept Body false d) (sym laid) (IsKept-lay false c sound.kept);
+      kept = subst (λ (d : Column Body). IsKept Body d) (sym laid) (IsKept-lay c sound.kept);
       alive_is = sound.alive_is ∙ ap live (sym same_items);
       few = omega (arith, ap (λ (d : Column Body). d.most) laid, sound.kept.fits, sound.few);
       gone = λ e. absurd (cc);
       fresh = λ e. absurd (cc);
     }
 
-pub lay-short : (c : Column Body) → IsKept Body false c → c.most ≤ 2 ^ 32 → height (lay c).tree ≤ 63
+pub lay-short : (c : Column Body) → IsKept Body c → c.most ≤ 2 ^ 32 → height (lay c).tree ≤ 63
 unfolding lay
-lay-short c kept few = IsKept-short false (lay c) (IsKept-lay false c kept) (omega (arith, kept.fits))
+lay-short c kept few = IsKept-short (lay c) (IsKept-lay c kept) (omega (arith, kept.fits))
 
 pub sum_laid : (c : Column Body) (u : Tree (Item Body)) (before after : List ℕ) (moved : List Recode) (dropped added : List ℕ) → u ≡ balanced (inorder c.tree) → before ≡ codes_of c.tree → after ≡ codes_of u → moved ≡ differing before after → dropped ≡ [] → added ≡ [] → (let s : Sum = record { moved = moved; dropped = dropped; added = added } in s) ≡ sum_of false (Lay ∷ []) c
 unfolding lay
@@ -64,13 +64,13 @@ sum_laid c u before after moved dropped added u_is before_is after_is moved_is n
     ∙ ap (λ (recodes : List Recode). let s : Sum = record { moved = recodes; dropped = []; added = [] } in s) pairs
     ∙ sym (lay_moves_codes false c).sum
 
-pub laid-short : (c : Column Body) (u : Tree (Item Body)) → u ≡ balanced (inorder c.tree) → IsKept Body false c → c.most ≤ 2 ^ 32 → height u ≤ 63
+pub laid-short : (c : Column Body) (u : Tree (Item Body)) → u ≡ balanced (inorder c.tree) → IsKept Body c → c.most ≤ 2 ^ 32 → height u ≤ 63
 unfolding lay
 laid-short c u u_is kept few = let short = lay-short c kept few in omega (arith, short, ap height u_is)
 
-pub change_laid : (c : Column Body) → IsKept Body false c → c.most ≤ 2 ^ 32 → Increase (sum_of false (Lay ∷ []) c)
+pub change_laid : (c : Column Body) → IsKept Body c → c.most ≤ 2 ^ 32 → Increase (sum_of false (Lay ∷ []) c)
 unfolding apply_all apply
-change_laid c kept few = sums_increase false (Lay ∷ []) c (IsKept-short false c kept few) (lay-short c kept few)
+change_laid c kept few = sums_increase false (Lay ∷ []) c (IsKept-short c kept few) (lay-short c kept few)
 
 pub codes_as_many : (c : Column Body) (u : Tree (Item Body)) (before after : List ℕ) → u ≡ balanced (inorder c.tree) → before ≡ codes_of c.tree → after ≡ codes_of u → length before ≡ length after
 codes_as_many c u before after u_is before_is after_is =

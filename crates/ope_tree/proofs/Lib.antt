@@ -10,7 +10,6 @@ pub mod Stopping
 pub mod CodeLists
 pub mod WalkedPlaces
 pub mod LinkCases
-pub mod RankedCodes
 pub mod Laid
 pub mod Spent
 pub mod Walking

@@ -1,11 +1,11 @@
 -- One row fewer at an item of a tree: how many items have rows, the counts, the codes, and what stays sound.
-use Rattle.std.proofs.Common.{◌≡◌, ℕ, ◌+◌, ◌^◌, ◌<◌, ◌≤◌, true, false, List, [], ◌∷◌, ◌++◌, map, ap, ap₂, ◌∙◌, sym, inl, inr, arith}
+use Rattle.std.proofs.Common.{◌≡◌, ℕ, ◌+◌, ◌^◌, ◌<◌, ◌≤◌, Bool, ◌&&◌, slice_get, true, false, List, [], ◌∷◌, ◌++◌, map, ap, ap₂, ◌∙◌, sym, inl, inr, arith}
 use Rattle.std.proofs.lemmas.Bool.{cases_lt, cases_Bool}
 use Rattle.mope_base.specs.declared.body.Body.{Body}
-use Rattle.tree_model.specs.Trees.{Tree, node, inorder, height}
-use Rattle.tree_model.specs.Items.{Item, one_less, live, drop_item, is_sparse}
+use Rattle.tree_model.specs.Trees.{Tree, node, inorder, size, height}
+use Rattle.tree_model.specs.Items.{Item, one_less, change_at, live, is_dead, drop_item, is_sparse}
 use Rattle.tree_model.specs.Removal.{change_tree}
-use Rattle.tree_model.specs.Columns.{Column, items_of, whole, shrunk, pruned, drop_one, Drop}
+use Rattle.tree_model.specs.Columns.{Column, items_of, whole, taken_out, shrunk, pruned, fewer, drop_one, Drop}
 use Rattle.tree_model.specs.ColumnLaws.{IsKept}
 use Rattle.tree_model.proofs.LiveItems.{live-yes, live-no, live-nil, drop_item-ordinary}
 use Rattle.tree_model.proofs.Removals.{inorder-change_tree, height-change_tree}
@@ -15,9 +15,13 @@ use Rattle.path_code.specs.Sums.{Sum, sum_of}
 use Rattle.code_changes.specs.Changes.{differing, with_rows, without_rows}
 use Rattle.code_changes.specs.Columns.{codes_of, counts_of, lowered}
 use Rattle.code_changes.proofs.Counts.{counts as item_counts, counts-less}
-use Rattle.code_changes.proofs.Staying.{codes_of-change_tree, fewer-ordinary, drop-by, drop_lowers_count}
+use Rattle.code_changes.proofs.Staying.{codes_of-change_tree, drop-by, drop_lowers_count}
+use Rattle.code_changes.specs.Removal.{removal_sum, goes_alone}
+use Rattle.code_changes.proofs.Shifted.{removal_sum-changed}
+use Rattle.code_changes.proofs.Removing.{drop_takes_item, drop_is_ordinary, alone-same_time}
 use Rattle.code_changes.proofs.Sparse.{sparse_keeps_live}
 use Rattle.ope_tree.specs.SweptSum.{counts_in, swept_sum}
+use Rattle.ope_tree.specs.Dropped.{IsDropChange}
 
 -- ---- how many items have rows
 
@@ -59,18 +63,18 @@ counted body count = record { body = body; count = count }
 abbrev pub column : {B : Type 0} → Tree (Item B) → ℕ → Column B
 column t most = record { tree = t; most = most }
 
--- t is the tree before, u the one with a row fewer, v the pruned one, w the same once more
-pub record IsDropped (t u v w : Tree (Item Body)) (rank most most' : ℕ) : Type 0 where
+-- t is the tree before, u the one with a row fewer, v the tidied one, w the same once more
+pub record IsDropped (same_time : Bool) (t u v w : Tree (Item Body)) (rank most most' : ℕ) : Type 0 where
   pub less : u ≡ change_tree one_less t rank
-  pub prune : column v most' ≡ pruned u most
+  pub tidy : column v most' ≡ pruned (taken_out (same_time && is_dead (slice_get (inorder u) rank)) u rank) most
   pub same : w ≡ v
 
-pub column_dropped : (t u v w : Tree (Item Body)) (rank most most' : ℕ) → IsDropped t u v w rank most most' → column w most' ≡ drop_one false rank (column t most)
-unfolding drop_one
-column_dropped t u v w rank most most' is =
+pub column_dropped : (same_time : Bool) (t u v w : Tree (Item Body)) (rank most most' : ℕ) → IsDropped same_time t u v w rank most most' → column w most' ≡ drop_one same_time rank (column t most)
+unfolding drop_one fewer
+column_dropped same_time t u v w rank most most' is =
     ap (λ (x : Tree (Item Body)). column x most') is.same
-    ∙ is.prune
-    ∙ ap (λ (x : Tree (Item Body)). pruned x most) (is.less ∙ sym (fewer-ordinary t rank))
+    ∙ is.tidy
+    ∙ ap (λ (x : Tree (Item Body)). pruned (taken_out (same_time && is_dead (slice_get (inorder x) rank)) x rank) most) is.less
 
 items_lowered : (t u : Tree (Item Body)) (rank most : ℕ) → u ≡ change_tree one_less t rank → inorder u ≡ drop_item false (items_of (column t most)) rank
 unfolding items_of
@@ -95,18 +99,34 @@ swept_is t u rank most e sparse =
     (ap₂ (λ (ks xs : List ℕ). without_rows ks xs) ns codes)
     ∙ sym (sparse_keeps_live rank (column t most) sparse).sum
 
--- the change of a pruned tree is the drop's
-pub change_dropped : (t u : Tree (Item Body)) (rank most : ℕ) (change : Sum) → u ≡ change_tree one_less t rank → (is_sparse most (inorder u) ≡ false → change ≡ record { moved = []; dropped = []; added = [] }) → (is_sparse most (inorder u) ≡ true → change ≡ swept_sum u) → change ≡ sum_of false (Drop rank ∷ []) (column t most)
-change_dropped t u rank most change e enough sparse =
-    let here : is_sparse most (inorder u) ≡ is_sparse most (drop_item false (items_of (column t most)) rank) = ap (λ (xs : List (Item Body)). is_sparse most xs) (items_lowered t u rank most e) in
-    elim (cases_Bool (is_sparse most (inorder u))) [
-      | inl on ↦ sparse on ∙ swept_is t u rank most e (sym here ∙ on)
-      | inr off ↦ enough off ∙ sym (drop_lowers_count rank (column t most) (sym here ∙ off)).sum
+-- the change of a tidied tree is the drop's
+pub change_dropped : (same_time : Bool) (t u : Tree (Item Body)) (rank most : ℕ) (change : Sum) → rank < size t → u ≡ change_tree one_less t rank → IsDropChange same_time most rank u change → change ≡ sum_of same_time (Drop rank ∷ []) (column t most)
+unfolding items_of
+change_dropped same_time t u rank most change within e is =
+    let c = column t most in
+    let items : inorder u ≡ change_at one_less (items_of c) rank = ap inorder e ∙ inorder-change_tree one_less t rank in
+    let alone : goes_alone same_time most (inorder u) rank ≡ goes_alone same_time most (change_at one_less (items_of c) rank) rank = ap (λ (xs : List (Item Body)). goes_alone same_time most xs rank) items in
+    let here : is_sparse most (inorder u) ≡ is_sparse most (drop_item false (items_of c) rank) = ap (λ (xs : List (Item Body)). is_sparse most xs) (items_lowered t u rank most e) in
+    elim (cases_Bool (goes_alone same_time most (inorder u) rank)) [
+      | inl goes ↦
+          let mode = alone-same_time same_time most (inorder u) rank goes in
+          let item = drop_takes_item rank c within (ap (λ (m : Bool). goes_alone m most (change_at one_less (items_of c) rank) rank) (sym mode) ∙ sym alone ∙ goes) in
+          is.alone goes
+          ∙ ap (λ (v : Tree (Item Body)). removal_sum v rank) e
+          ∙ removal_sum-changed one_less t rank within
+          ∙ sym item.sum
+          ∙ ap (λ (m : Bool). sum_of m (Drop rank ∷ []) c) (sym mode)
+      | inr stays ↦
+          let ordinary = drop_is_ordinary same_time rank c (sym alone ∙ stays) in
+          elim (cases_Bool (is_sparse most (inorder u))) [
+            | inl on ↦ is.sparse on ∙ swept_is t u rank most e (sym here ∙ on) ∙ sym ordinary.sum
+            | inr off ↦ is.neither stays off ∙ sym (drop_lowers_count rank c (sym here ∙ off)).sum ∙ sym ordinary.sum
+          ]
     ]
 
 -- ---- what is true of the fields
 
-pub lowered_short : (t u : Tree (Item Body)) (rank most : ℕ) → IsKept Body false (column t most) → most < 2 ^ 32 → u ≡ change_tree one_less t rank → height u ≤ 63
+pub lowered_short : (t u : Tree (Item Body)) (rank most : ℕ) → IsKept Body (column t most) → most < 2 ^ 32 → u ≡ change_tree one_less t rank → height u ≤ 63
 lowered_short t u rank most kept few e =
-    let high = IsKept-short false (column t most) kept (omega arith) in
+    let high = IsKept-short (column t most) kept (omega arith) in
     omega (arith, high, ap height e, height-change_tree one_less t rank)

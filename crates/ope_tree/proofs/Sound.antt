@@ -19,7 +19,7 @@ pub sound_empty : (nodes : List Node) (spent : Bool) → nodes ≡ [] → IsSoun
 unfolding tree_by IsLink inorder live live_items empty_column
 sound_empty nodes spent e =
     let P : List Node → Type 0 = λ ns. IsSound ns None 0 0 spent in
-    let here : IsSound [] None 0 0 spent = record { is_link = tt; kept = IsKept-empty Body false; alive_is = refl; few = omega arith; gone = λ _. refl; fresh = λ _. refl } in
+    let here : IsSound [] None 0 0 spent = record { is_link = tt; kept = IsKept-empty Body; alive_is = refl; few = omega arith; gone = λ _. refl; fresh = λ _. refl } in
     subst P (sym e) here
 
 pub seen_empty : (nodes : List Node) (spent : Bool) → nodes ≡ [] → seen_of nodes None 0 spent ≡ empty_seen spent
@@ -27,14 +27,14 @@ unfolding tree_by empty_column empty_seen
 seen_empty nodes spent e = ap (λ (ns : List Node). seen_of ns None 0 spent) e
 
 pub sound_short : (nodes : List Node) (root : Option ℕ) (alive most : ℕ) (spent : Bool) → IsSound nodes root alive most spent → height (tree_of nodes root) ≤ 63
-sound_short nodes root alive most spent sound = IsKept-short false (column_of nodes root most) sound.kept (omega (arith, sound.few))
+sound_short nodes root alive most spent sound = IsKept-short (column_of nodes root most) sound.kept (omega (arith, sound.few))
 
 -- ---- after an operation
 
 -- no way has more than 55 steps
 pub sound_low : (nodes : List Node) (root : Option ℕ) (alive most : ℕ) (spent : Bool) → IsSound nodes root alive most spent → height (tree_of nodes root) ≤ 55
 sound_low nodes root alive most spent sound =
-    let high = IsKept-high false (column_of nodes root most) sound.kept in
+    let high = IsKept-high (column_of nodes root most) sound.kept in
     let low = limit-le most (2 ^ 32) (omega (arith, sound.few)) in
     let at : limit (2 ^ 32) ≡ 54 = limit-unique (2 ^ 32) 54 (omega arith) (omega arith) (omega arith) in
     omega arith
@@ -42,7 +42,7 @@ sound_low nodes root alive most spent sound =
 pub sound_after : (old new : List Node) (root link : Option ℕ) (alive most alive_now most_now : ℕ) (operation : Operation Body) → IsSound old root alive most false → IsLink new link → column_of new link most_now ≡ apply false operation (column_of old root most) → alive_now ≡ live (items_of (apply false operation (column_of old root most))) → most_now < 2 ^ 32 → IsSound new link alive_now most_now false
 unfolding items_of
 sound_after old new root link alive most alive_now most_now operation sound h e alive_is few =
-    let P : Column Body → Type 0 = λ c. IsKept Body false c in
+    let P : Column Body → Type 0 = λ c. IsKept Body c in
     record {
       is_link = h;
       kept = subst P (sym e) (IsKept-apply false operation (column_of old root most) sound.kept);
@@ -55,7 +55,7 @@ sound_after old new root link alive most alive_now most_now operation sound h e 
 -- the same tree in another arena
 pub sound_elsewhere : (old new : List Node) (root link : Option ℕ) (alive most : ℕ) (spent : Bool) → IsSound old root alive most spent → spent ≡ false → IsLink new link → tree_of new link ≡ tree_of old root → IsSound new link alive most spent
 sound_elsewhere old new root link alive most spent sound none h e =
-    let P : Tree (Item Body) → Type 0 = λ t. IsKept Body false (record { tree = t; most = most }) in
+    let P : Tree (Item Body) → Type 0 = λ t. IsKept Body (record { tree = t; most = most }) in
     record {
       is_link = h;
       kept = subst P (sym e) sound.kept;
@@ -71,4 +71,4 @@ unfolding apply_all
 increase_after old root alive most operation s sound few e =
     let c = column_of old root most in
     let P : Sum → Type 0 = λ s. Increase s in
-    subst P (sym e) (sums_increase false (operation ∷ []) c (sound_short old root alive most false sound) (IsKept-short false (apply false operation c) (IsKept-apply false operation c sound.kept) few))
+    subst P (sym e) (sums_increase false (operation ∷ []) c (sound_short old root alive most false sound) (IsKept-short (apply false operation c) (IsKept-apply false operation c sound.kept) few))

@@ -21,10 +21,10 @@ use Rattle.code_changes.specs.Changes.{differing}
 use Rattle.code_changes.specs.Columns.{codes_of as codes_by_rank}
 use Rattle.code_changes.proofs.Gaps.{gap_adds_item}
 use Rattle.code_changes.proofs.Leading.{same_sum}
-use Rattle.ope_tree.proofs.RankedCodes.{codes_along-by_rank}
-use Rattle.ope_tree.specs.Listed.{codes_along}
+use Rattle.code_changes.proofs.RankedCodes.{codes_along-by_rank}
+use Rattle.code_changes.specs.Removal.{codes_along}
 use Rattle.ope_tree.specs.Settling.{moved_in, added_in}
-use Rattle.ope_tree.proofs.CodeLists.{length-codes_along}
+use Rattle.code_changes.proofs.Shifted.{length-codes_along, differing-front, differing-back}
 
 -- ---- lists with a part in them
 
@@ -61,28 +61,8 @@ remove-inserted xs rank x h =
 
 -- ---- pairs that differ
 
-differing-append : (a b x y : List ℕ) → length a ≡ length b → differing (a ++ x) (b ++ y) ≡ differing a b ++ differing x y
-unfolding differing unless
-differing-append [] [] x y h = refl
-differing-append [] (d ∷ b) x y h = absurd (omega arith)
-differing-append (c ∷ a) [] x y h = absurd (omega arith)
-differing-append (c ∷ a) (d ∷ b) x y h =
-    ap (λ (rest : List Recode). unless (eqb c d) (record { old = c; new = d }) rest) (differing-append a b x y (omega arith))
-    ∙ split (eqb c d) (record { old = c; new = d }) (differing a b) (differing x y)
-  where
-    split : (e : Bool) (r : Recode) (xs ys : List Recode) → unless e r (xs ++ ys) ≡ unless e r xs ++ ys
-    split true r xs ys = refl
-    split false r xs ys = refl
-
-differing-same : (xs : List ℕ) → differing xs xs ≡ []
-unfolding differing unless
-differing-same [] = refl
-differing-same (x ∷ xs) = rw (eq-eqb x x refl) (differing-same xs)
-
 differing-middle : (front old new back : List ℕ) → length old ≡ length new → differing (front ++ (old ++ back)) (front ++ (new ++ back)) ≡ differing old new
-differing-middle front old new back h =
-    differing-append front front (old ++ back) (new ++ back) refl
-    ∙ ap₂ (λ (xs ys : List Recode). xs ++ ys) (differing-same front) (differing-append old new back back h ∙ ap (λ (ys : List Recode). differing old new ++ ys) (differing-same back) ∙ append-nil (differing old new))
+differing-middle front old new back h = differing-front front (old ++ back) (new ++ back) ∙ differing-back old new back h
 
 -- ---- the codes left and right of the tree at the end of a way
 

@@ -7,3 +7,4 @@ pub mod Standing
 pub mod Conditions
 pub mod Walked
 pub mod Settling
+pub mod Dropped

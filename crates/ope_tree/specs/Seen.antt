@@ -29,7 +29,7 @@ seen_of nodes root most spent = record { column = column_of nodes root most; nam
 -- what is true of the fields of every tree
 pub record IsSound (nodes : List Node) (root : Option ℕ) (alive most : ℕ) (spent : Bool) : Type 0 where
   pub is_link : IsLink nodes root
-  pub kept : IsKept Body false (column_of nodes root most)
+  pub kept : IsKept Body (column_of nodes root most)
   pub alive_is : alive ≡ live (inorder (tree_of nodes root))
   pub few : most < 2 ^ 32
   pub gone : spent ≡ true → root ≡ None

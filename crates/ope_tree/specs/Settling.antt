@@ -14,7 +14,7 @@ use Rattle.ope_tree.specs.declared.nodes.Node.{Node}
 use Rattle.ope_tree.specs.declared.settling.Part.{Part}
 use Rattle.ope_tree.specs.Nodes.{tree_of, IsLink}
 use Rattle.code_changes.specs.Changes.{differing}
-use Rattle.ope_tree.specs.Listed.{codes_along}
+use Rattle.code_changes.specs.Removal.{codes_along}
 
 -- how far down the nearest ancestor of the item of a rank stands that is too tall for its items
 unfoldable pub tall_depth : {A : Type 0} → Tree A → ℕ → ℕ

@@ -1,7 +1,7 @@
 //! Codes of all items of a tree, in order, and the pairs of codes that differ.
 ghost use Rattle.code_changes.specs.Columns.{codes_of};
 ghost use Rattle.code_changes.specs.Changes.{differing};
-ghost use Rattle.ope_tree.specs.Listed.{codes_along};
+ghost use Rattle.code_changes.specs.Removal.{codes_along};
 ghost use Rattle.ope_tree.specs.Nodes.{IsLink, tree_of};
 ghost use Rattle.path_code.specs.Ways.{way};
 ghost use Rattle.path_code.specs.Sums.{unless};

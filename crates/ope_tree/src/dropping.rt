@@ -1,16 +1,19 @@
 //! One row fewer at an item.
+ghost use Rattle.code_changes.specs.Removal.{goes_alone};
+ghost use Rattle.mope_base.specs.Modes.{is_same_time};
+ghost use Rattle.mope_base.specs.declared.body.Body.{Body};
 ghost use Rattle.ope_tree.specs.Built.{IsBuilt};
+ghost use Rattle.ope_tree.specs.Dropped.{IsDropChange};
 ghost use Rattle.ope_tree.specs.Listed.{count_at};
 ghost use Rattle.ope_tree.specs.Nodes.{IsLink, item_of, tree_of};
 ghost use Rattle.ope_tree.specs.Seen.{IsSound, column_of, empty_seen};
 ghost use Rattle.path_code.specs.Sums.{sum_of};
-ghost use Rattle.std.specs.Prelude.{◌≡◌, ◌+◌, ◌<◌, ◌≤◌, [], ◌∷◌, false, true, IfOk, OnOk, OnErr};
-ghost use Rattle.tree_model.specs.ColumnLaws.{IsKept};
-ghost use Rattle.tree_model.specs.Columns.{Drop, drop_one};
-ghost use Rattle.tree_model.specs.Items.{live, one_less};
+ghost use Rattle.std.specs.Prelude.{◌≡◌, ◌+◌, ◌^◌, ◌<◌, ◌≤◌, ◌&&◌, [], ◌∷◌, false, true, slice_get, IfOk, OnOk, OnErr};
+ghost use Rattle.tree_model.specs.ColumnLaws.{IsKept, SuitsMode};
+ghost use Rattle.tree_model.specs.Columns.{Drop, drop_one, pruned, taken_out};
+ghost use Rattle.tree_model.specs.Items.{is_dead, live, one_less};
 ghost use Rattle.tree_model.specs.Removal.{change_tree};
 ghost use Rattle.tree_model.specs.Trees.{height, inorder, size};
-ghost use Rattle.mope_base.specs.declared.body.Body.{Body};
 
 use crate::Tree;
 use crate::arena::Arena;
@@ -19,8 +22,11 @@ use crate::change::Change;
 use crate::copying::compacted;
 use crate::done::Done;
 use crate::nodes::Entry;
+use crate::reading::entry_at;
+use crate::removing::withdrawn;
 use crate::sweeping::pruned;
 use mope_base::{Mode, OutOfMemory};
+use scapegoat::needs_whole;
 
 /// A tree with one row fewer, and how many of its items, 0 or 1, had their last row then.
 #[derive(Drop)]
@@ -80,6 +86,65 @@ fn lowered(nodes: &mut Arena, link: Option<u32>, rank: u32) -> Result<Fewer, Out
     })
 }
 
+/// Whether the tree of a link has an item of this rank and no row has it.
+fn has_no_rows(nodes: &Arena, link: Option<u32>, rank: u32) -> bool
+    requires { IsLink nodes.now link }
+    ensures { result ≡ is_dead (slice_get (inorder (tree_of nodes.now link)) rank) }
+{
+    match entry_at(nodes, link, rank) {
+        None => false,
+        Some(entry) => entry.count == 0,
+    }
+}
+
+/// Whether the item of a rank, which has just lost a row, goes and the tree isn't balanced whole.
+fn leaves(
+    nodes: &Arena,
+    root: Option<u32>,
+    alive: u32,
+    most: u32,
+    rank: u32,
+    mode: Mode,
+) -> bool
+    requires link { IsLink nodes.now root }
+    requires alive { alive ≡ live (inorder (tree_of nodes.now root)) }
+    ensures { result ≡ goes_alone (is_same_time mode) most (inorder (tree_of nodes.now root)) rank }
+{
+    if needs_whole(u64::from(alive), u64::from(most)) {
+        return false;
+    }
+    match mode {
+        Mode::Ordinary => false,
+        Mode::SameTime => has_no_rows(nodes, root, rank),
+    }
+}
+
+/// The tree of a link, whose item of a rank has just lost a row: that item goes where its mode says so, and where too few
+/// items have rows, the tree becomes the balanced tree of those.
+fn tidied(
+    nodes: &mut Arena,
+    root: Option<u32>,
+    alive: u32,
+    most: u32,
+    rank: u32,
+    mode: Mode,
+) -> Result<Done, OutOfMemory>
+    requires link { IsLink nodes.old root }
+    requires short { height (tree_of nodes.old root) ≤ 63 }
+    requires is_rank { rank < size (tree_of nodes.old root) }
+    requires alive { alive ≡ live (inorder (tree_of nodes.old root)) }
+    ensures link { IfOk result (λ done. IsLink nodes.new done.root) }
+    ensures column { IfOk result (λ done. column_of nodes.new done.root done.most ≡ pruned (taken_out (is_same_time mode && is_dead (slice_get (inorder (tree_of nodes.old root)) rank)) (tree_of nodes.old root) rank) most) }
+    ensures alive { IfOk result (λ done. done.alive ≡ live (inorder (tree_of nodes.new done.root))) }
+    ensures few { IfOk result (λ done. done.most < 2 ^ 32) }
+    ensures change { IfOk result (λ done. IsDropChange (is_same_time mode) most rank (tree_of nodes.old root) done.change) }
+{
+    if leaves(nodes, root, alive, most, rank, mode) {
+        return withdrawn(nodes, root, alive, most, rank);
+    }
+    pruned(nodes, root, alive, most)
+}
+
 /// One row fewer at the item of a rank of the tree of a link.
 fn dropped(
     nodes: &mut Arena,
@@ -87,14 +152,16 @@ fn dropped(
     alive: u32,
     most: u32,
     rank: u32,
+    mode: Mode,
 ) -> Result<Done, OutOfMemory>
-    requires { IsSound nodes.old root alive most false }
+    requires sound { IsSound nodes.old root alive most false }
+    requires is_rank { rank < size (tree_of nodes.old root) }
     ensures sound { IfOk result (λ done. IsSound nodes.new done.root done.alive done.most false) }
-    ensures column { IfOk result (λ done. column_of nodes.new done.root done.most ≡ drop_one false rank (column_of nodes.old root most)) }
-    ensures change { IfOk result (λ done. done.change ≡ sum_of false (Drop rank ∷ []) (column_of nodes.old root most)) }
+    ensures column { IfOk result (λ done. column_of nodes.new done.root done.most ≡ drop_one (is_same_time mode) rank (column_of nodes.old root most)) }
+    ensures change { IfOk result (λ done. done.change ≡ sum_of (is_same_time mode) (Drop rank ∷ []) (column_of nodes.old root most)) }
 {
     let fewer = lowered(nodes, root, rank)?;
-    let done = pruned(nodes, fewer.link, alive - fewer.emptied, most)?;
+    let done = tidied(nodes, fewer.link, alive - fewer.emptied, most, rank, mode)?;
     let root = compacted(nodes, done.root)?;
     Ok(Done {
         root,
@@ -105,22 +172,31 @@ fn dropped(
 }
 
 impl Tree {
-    /// One row fewer at the item of a rank, which keeps its place with the count 0 where that was its last. Where so few
-    /// items have rows that 3 * live < 2 * max, the tree becomes the balanced tree of those.
+    /// One row fewer at the item of a rank. Where that was its last, it keeps its place with the count 0 in ordinary mode;
+    /// in same-time mode it goes: its one child takes its place, or, where it has two, the leftmost item of its right tree,
+    /// whose right tree moves up. Then, in both modes, where so few items have rows that 3 * live < 2 * max, the tree
+    /// becomes the balanced tree of those.
     ///
-    /// The item must have a row, and the mode must be `Ordinary`. After `OutOfMemory` the tree is spent.
+    /// The item must have a row. After `OutOfMemory` the tree is spent.
     pub fn drop_one(&mut self, rank: u32, mode: Mode) -> Result<Change, OutOfMemory>
         requires is_rank { rank < size self.old.column.tree }
         requires has_row { 0 < count_at self.old.column rank }
-        requires ordinary { mode ≡ Mode.Ordinary }
-        ensures column { OnOk result (self.new.column ≡ drop_one false rank self.old.column) }
-        ensures change { IfOk result (λ change. change ≡ sum_of false (Drop rank ∷ []) self.old.column) }
+        ensures column { OnOk result (self.new.column ≡ drop_one (is_same_time mode) rank self.old.column) }
+        ensures change { IfOk result (λ change. change ≡ sum_of (is_same_time mode) (Drop rank ∷ []) self.old.column) }
         ensures fresh { OnOk result (self.new.spent ≡ false) }
         ensures spent { OnErr result (self.new ≡ empty_seen true) }
-        ensures kept { IsKept Body false self.new.column }
+        ensures kept { IsKept Body self.new.column }
+        ensures suits { SuitsMode (is_same_time mode) self.old.column → SuitsMode (is_same_time mode) self.new.column }
         ensures short { height self.new.column.tree ≤ 63 }
     {
-        let done = dropped(&mut self.nodes, self.root, self.alive, self.most, rank);
+        let done = dropped(
+            &mut self.nodes,
+            self.root,
+            self.alive,
+            self.most,
+            rank,
+            mode,
+        );
         match done {
             Ok(done) => {
                 self.root = done.root;

@@ -4,8 +4,8 @@ ghost use Rattle.ope_tree.specs.Listed.{count_at};
 ghost use Rattle.ope_tree.specs.Nodes.{item_of, tree_of};
 ghost use Rattle.ope_tree.specs.Seen.{IsSound, column_of, empty_seen};
 ghost use Rattle.path_code.specs.Sums.{sum_of};
-ghost use Rattle.std.specs.Prelude.{◌≡◌, ◌+◌, ◌^◌, ◌<◌, ◌≤◌, [], ◌∷◌, false, true, IfOk, OnOk, OnErr, IsErr};
-ghost use Rattle.tree_model.specs.ColumnLaws.{IsKept};
+ghost use Rattle.std.specs.Prelude.{◌≡◌, ◌+◌, ◌^◌, ◌<◌, ◌≤◌, Bool, [], ◌∷◌, false, true, IfOk, OnOk, OnErr, IsErr};
+ghost use Rattle.tree_model.specs.ColumnLaws.{IsKept, SuitsMode};
 ghost use Rattle.tree_model.specs.Columns.{Add, add};
 ghost use Rattle.tree_model.specs.Items.{live, one_more};
 ghost use Rattle.tree_model.specs.Trees.{IsPlaceOf, height, size};
@@ -191,11 +191,12 @@ impl Tree {
         requires few { size self.old.column.tree < 2 ^ 31 }
         requires room { HasRoom self.old.column place }
         ensures column { OnOk result (self.new.column ≡ add place body self.old.column) }
-        ensures change { IfOk result (λ change. change ≡ sum_of false (Add place body ∷ []) self.old.column) }
+        ensures change { (same_time : Bool) → IfOk result (λ change. change ≡ sum_of same_time (Add place body ∷ []) self.old.column) }
         ensures fresh { OnOk result (self.new.spent ≡ false) }
         ensures spent { OnErr result (self.new ≡ empty_seen true) }
         ensures refused { self.old.spent ≡ true → IsErr result }
-        ensures kept { IsKept Body false self.new.column }
+        ensures kept { IsKept Body self.new.column }
+        ensures suits { (same_time : Bool) → SuitsMode same_time self.old.column → SuitsMode same_time self.new.column }
         ensures short { height self.new.column.tree ≤ 63 }
     {
         if self.spent {

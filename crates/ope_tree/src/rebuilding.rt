@@ -2,8 +2,8 @@
 ghost use Rattle.ope_tree.specs.Nodes.{IsLink, items_of_entries, tree_of};
 ghost use Rattle.ope_tree.specs.Seen.{IsSound, column_of, empty_seen};
 ghost use Rattle.path_code.specs.Sums.{sum_of};
-ghost use Rattle.std.specs.Prelude.{◌≡◌, ◌≤◌, [], ◌∷◌, false, true, IfOk, OnOk, OnErr, IsErr};
-ghost use Rattle.tree_model.specs.ColumnLaws.{IsKept};
+ghost use Rattle.std.specs.Prelude.{◌≡◌, ◌≤◌, Bool, [], ◌∷◌, false, true, IfOk, OnOk, OnErr, IsErr};
+ghost use Rattle.tree_model.specs.ColumnLaws.{IsKept, SuitsMode};
 ghost use Rattle.tree_model.specs.Columns.{Lay, lay};
 ghost use Rattle.tree_model.specs.Trees.{balanced, height};
 ghost use Rattle.mope_base.specs.declared.body.Body.{Body};
@@ -55,11 +55,12 @@ impl Tree {
     /// their number. After `OutOfMemory` it is spent.
     pub fn rebuild(&mut self) -> Result<Change, OutOfMemory>
         ensures column { OnOk result (self.new.column ≡ lay self.old.column) }
-        ensures change { IfOk result (λ change. change ≡ sum_of false (Lay ∷ []) self.old.column) }
+        ensures change { (same_time : Bool) → IfOk result (λ change. change ≡ sum_of same_time (Lay ∷ []) self.old.column) }
         ensures fresh { OnOk result (self.new.spent ≡ false) }
         ensures spent { OnErr result (self.new ≡ empty_seen true) }
         ensures refused { self.old.spent ≡ true → IsErr result }
-        ensures kept { IsKept Body false self.new.column }
+        ensures kept { IsKept Body self.new.column }
+        ensures suits { (same_time : Bool) → SuitsMode same_time self.old.column → SuitsMode same_time self.new.column }
         ensures short { height self.new.column.tree ≤ 63 }
     {
         if self.spent {

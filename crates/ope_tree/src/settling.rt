@@ -1,6 +1,6 @@
 //! The part of a tree that becomes balanced after an insertion, and what that does to its codes.
 ghost use Rattle.ope_tree.specs.Built.{IsBuilt};
-ghost use Rattle.ope_tree.specs.Listed.{codes_along};
+ghost use Rattle.code_changes.specs.Removal.{codes_along};
 ghost use Rattle.ope_tree.specs.Nodes.{IsLink, tree_of};
 ghost use Rattle.ope_tree.specs.Settling.{IsMovedIn, IsPartOf, added_in, moved_in, tall_depth};
 ghost use Rattle.path_code.specs.Ways.{way};

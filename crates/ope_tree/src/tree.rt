@@ -54,7 +54,7 @@ impl Tree {
     /// How many items it has.
     pub fn len(&self) -> u32
         ensures value { result ≡ size self.now.column.tree }
-        ensures kept { IsKept Body false self.now.column }
+        ensures kept { IsKept Body self.now.column }
         ensures short { height self.now.column.tree ≤ 63 }
     {
         size_of(&self.nodes, self.root)

@@ -7,7 +7,7 @@ use Rattle.tree_model.specs.Trees.{inorder}
 use Rattle.tree_model.specs.Places.{place, IsBelowAll, IsIncreasing}
 use Rattle.tree_model.specs.Items.{Item, map_item, one_less, values, change_at, live_items, is_dead, gone, drop_item, is_sparse, swept, AllLive}
 use Rattle.tree_model.specs.Columns.{Column, items_of, map_column}
-use Rattle.tree_model.specs.ColumnLaws.{IsKept, KeepsOrder}
+use Rattle.tree_model.specs.ColumnLaws.{IsKept, SuitsMode, KeepsOrder}
 use Rattle.tree_model.proofs.Changes.{map-change_at, IsIncreasing-add_item}
 use Rattle.tree_model.proofs.LiveItems.{live_items-yes, live_items-no, live_items-nil}
 use Rattle.tree_model.proofs.Mapped.{size-map_tree, path-map_tree, inorder-map_tree}
@@ -97,14 +97,17 @@ unfolding AllLive map_item
 AllLive-map f [] all = tt
 AllLive-map f (x ∷ items) all = (all.0, AllLive-map f items all.1)
 
-pub IsKept-map : {B C : Type 0} (f : B → C) (same_time : Bool) (c : Column B) → IsKept B same_time c → IsKept C same_time (map_column f c)
+pub IsKept-map : {B C : Type 0} (f : B → C) (c : Column B) → IsKept B c → IsKept C (map_column f c)
 unfolding map_column items_of
-IsKept-map {B} {C} f same_time c k =
+IsKept-map {B} {C} f c k =
     let many = size-map_tree (map_item f) c.tree in
     record {
       shallow = λ rank h. omega (arith, k.shallow rank (omega arith), ap (λ (way : List Side). length way) (path-map_tree (map_item f) c.tree (Found rank)));
       dense = omega (arith, k.dense, live-map_tree f c.tree);
       fits = omega (arith, k.fits);
-      exact = λ e. k.exact e ∙ sym many;
-      all_live = λ e. subst AllLive (sym (inorder-map_tree (map_item f) c.tree)) (AllLive-map f (inorder c.tree) (k.all_live e));
     }
+
+pub SuitsMode-map : {B C : Type 0} (f : B → C) (same_time : Bool) (c : Column B) → SuitsMode same_time c → SuitsMode same_time (map_column f c)
+unfolding SuitsMode map_column items_of
+SuitsMode-map f false c s = s ∙ sym (size-map_tree (map_item f) c.tree)
+SuitsMode-map f true c s = subst AllLive (sym (inorder-map_tree (map_item f) c.tree)) (AllLive-map f (inorder c.tree) s)

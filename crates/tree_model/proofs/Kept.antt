@@ -5,18 +5,18 @@ use Rattle.tree_model.specs.declared.Place.{Place}
 use Rattle.tree_model.specs.declared.Place.TheVariants.{Found, Gap}
 use Rattle.tree_model.specs.Trees.{Tree, leaf, node, inorder, size, height, path, past, balanced}
 use Rattle.tree_model.specs.Places.{number}
-use Rattle.tree_model.specs.Items.{Item, new_item, one_more, one_less, add_item, live_items, live, is_dead, gone, drop_item, is_sparse, swept, AllLive}
+use Rattle.tree_model.specs.Items.{Item, new_item, one_more, one_less, add_item, live_items, live, is_dead, gone, drop_item, is_sparse, swept}
 use Rattle.tree_model.specs.Balance.{limit}
 use Rattle.tree_model.specs.Removal.{change_tree}
 use Rattle.tree_model.specs.Columns.{Column, empty_column, items_of, whole, add, taken_out, shrunk, pruned, fewer, drop_one, lay, Operation, Add, Drop, Lay, apply, apply_all}
-use Rattle.tree_model.specs.ColumnLaws.{IsKept}
-use Rattle.tree_model.proofs.Ways.{length-inorder, length-path_found, path-left, path-here, path-right}
+use Rattle.tree_model.specs.ColumnLaws.{IsKept, apply_mixed, IsWithinDepth, DepthsBySize}
+use Rattle.tree_model.proofs.Ways.{length-inorder, length-path, length-path_found, path-left, path-here, path-right}
 use Rattle.tree_model.proofs.Halves.{inorder-balanced, size-balanced, height-balanced}
 use Rattle.tree_model.proofs.Limits.{past_limit, limit-le, limit-unique, few_for_depth}
 use Rattle.tree_model.proofs.Depths.{inorder-insert_tree, size-insert_tree, height-insert_tree}
 use Rattle.tree_model.proofs.Removals.{inorder-change_tree, size-change_tree, height-change_tree, inorder-remove_tree, height-remove_tree}
 use Rattle.tree_model.proofs.Changes.{length-change_at}
-use Rattle.tree_model.proofs.LiveItems.{live-insert, live-one_more, live-live_items, AllLive-live_items, AllLive-insert, AllLive-one_more, AllLive-drop_item, drop_item-ordinary, length-drop_item, is_sparse-no}
+use Rattle.tree_model.proofs.LiveItems.{live-insert, live-one_more, live-live_items, drop_item-ordinary, length-drop_item, is_sparse-no}
 
 -- ---- the items
 
@@ -99,47 +99,40 @@ height-balanced_limit xs =
 -- ---- what each operation keeps
 
 -- the same with the height in place of the items' depths
-record Holds (B : Type 0) (same_time : Bool) (c : Column B) : Type 0 where
+record Holds (B : Type 0) (c : Column B) : Type 0 where
   high : height c.tree ≤ suc (limit c.most)
   dense : 2 * c.most ≤ 3 * live (items_of c)
   fits : size c.tree ≤ c.most
-  exact : same_time ≡ false → c.most ≡ size c.tree
-  all_live : same_time ≡ true → AllLive (items_of c)
 
-IsKept-by_height : {B : Type 0} (same_time : Bool) (c : Column B) → Holds B same_time c → IsKept B same_time c
-IsKept-by_height same_time c h =
-    record { shallow = items-from_height c.tree (limit c.most) h.high; dense = h.dense; fits = h.fits; exact = h.exact; all_live = h.all_live }
+IsKept-by_height : {B : Type 0} (c : Column B) → Holds B c → IsKept B c
+IsKept-by_height c h = record { shallow = items-from_height c.tree (limit c.most) h.high; dense = h.dense; fits = h.fits }
 
-pub IsKept-high : {B : Type 0} (same_time : Bool) (c : Column B) → IsKept B same_time c → height c.tree ≤ suc (limit c.most)
-IsKept-high same_time c k = height-from_items c.tree (limit c.most) k.shallow
+pub IsKept-high : {B : Type 0} (c : Column B) → IsKept B c → height c.tree ≤ suc (limit c.most)
+IsKept-high c k = height-from_items c.tree (limit c.most) k.shallow
 
-new_item-live : {B : Type 0} (b : B) → 0 < (new_item b).count
+pub new_item-live : {B : Type 0} (b : B) → 0 < (new_item b).count
 unfolding new_item
 new_item-live b = omega arith
 
-pub IsKept-add : {B : Type 0} (same_time : Bool) (p : Place) (b : B) (c : Column B) → IsKept B same_time c → IsKept B same_time (add p b c)
+pub IsKept-add : {B : Type 0} (p : Place) (b : B) (c : Column B) → IsKept B c → IsKept B (add p b c)
 unfolding add items_of
-IsKept-add same_time (Found rank) b c k =
-    let items = inorder-change_tree one_more c.tree rank in
+IsKept-add (Found rank) b c k =
     let same = size-change_tree one_more c.tree rank in
-    IsKept-by_height same_time (add (Found rank) b c) (record {
-      high = omega (arith, height-change_tree one_more c.tree rank, IsKept-high same_time c k);
+    let items = inorder-change_tree one_more c.tree rank in
+    IsKept-by_height (add (Found rank) b c) (record {
+      high = omega (arith, IsKept-high c k, height-change_tree one_more c.tree rank);
       dense = omega (arith, ap live items, live-one_more (inorder c.tree) rank, k.dense);
       fits = omega (arith, k.fits);
-      exact = λ e. k.exact e ∙ sym same;
-      all_live = λ e. subst AllLive (sym items) (AllLive-one_more (inorder c.tree) rank (k.all_live e));
     })
-IsKept-add same_time (Gap rank) b c k =
+IsKept-add (Gap rank) b c k =
     let most = max c.most (suc (size c.tree)) in
     let items = inorder-insert_tree most rank (new_item b) c.tree in
     let one = size-insert_tree most rank (new_item b) c.tree in
     let more = ap live items ∙ live-insert (inorder c.tree) rank (new_item b) (new_item-live b) in
-    IsKept-by_height same_time (add (Gap rank) b c) (record {
-      high = height-insert_tree most rank (new_item b) c.tree (omega arith) (omega (arith, IsKept-high same_time c k, limit-le c.most most (omega arith)));
+    IsKept-by_height (add (Gap rank) b c) (record {
+      high = height-insert_tree most rank (new_item b) c.tree (omega arith) (omega (arith, IsKept-high c k, limit-le c.most most (omega arith)));
       dense = omega (arith, k.dense, k.fits);
       fits = omega arith;
-      exact = λ e. omega (arith, k.exact e);
-      all_live = λ e. subst AllLive (sym items) (AllLive-insert (inorder c.tree) rank (new_item b) (new_item-live b) (k.all_live e));
     })
 
 height-taken_out : {B : Type 0} (b : Bool) (t : Tree (Item B)) (rank : ℕ) → height (taken_out b t rank) ≤ height t
@@ -156,11 +149,11 @@ pub size-fewer : {B : Type 0} (same_time : Bool) (t : Tree (Item B)) (rank : ℕ
 size-fewer same_time t rank =
     omega (arith, length-inorder (fewer same_time t rank), length-inorder t, ap length (inorder-fewer same_time t rank), length-drop_item same_time (inorder t) rank)
 
-size-fewer_ordinary : {B : Type 0} (t : Tree (Item B)) (rank : ℕ) → size (fewer false t rank) ≡ size t
+pub size-fewer_ordinary : {B : Type 0} (t : Tree (Item B)) (rank : ℕ) → size (fewer false t rank) ≡ size t
 size-fewer_ordinary t rank =
     sym (length-inorder (fewer false t rank)) ∙ ap length (inorder-fewer false t rank ∙ drop_item-ordinary (inorder t) rank) ∙ length-change_at one_less (inorder t) rank ∙ length-inorder t
 
-size-whole : {B : Type 0} (t : Tree (Item B)) → size (whole t) ≡ live (inorder t)
+pub size-whole : {B : Type 0} (t : Tree (Item B)) → size (whole t) ≡ live (inorder t)
 unfolding whole live
 size-whole t = size-balanced (live_items (inorder t))
 
@@ -173,83 +166,82 @@ unfolding live
 live_is t = refl
 
 -- a tree of so many items, kept or made whole
-IsKept-shrunk : {B : Type 0} (same_time b : Bool) (t : Tree (Item B)) (most : ℕ) → is_sparse most (inorder t) ≡ b → height t ≤ suc (limit most) → size t ≤ most → (same_time ≡ false → most ≡ size t) → (same_time ≡ true → AllLive (inorder t)) → IsKept B same_time (shrunk b t most)
+IsKept-shrunk : {B : Type 0} (b : Bool) (t : Tree (Item B)) (most : ℕ) → is_sparse most (inorder t) ≡ b → height t ≤ suc (limit most) → size t ≤ most → IsKept B (shrunk b t most)
 unfolding shrunk items_of
-IsKept-shrunk same_time true t most sparse high fits exact all_live =
+IsKept-shrunk true t most sparse high fits =
     let items = inorder-whole t in
     let many = ap live items ∙ live-live_items (inorder t) in
     let size_is = size-whole t in
-    IsKept-by_height same_time (shrunk true t most) (record {
+    IsKept-by_height (shrunk true t most) (record {
       high = height-whole t;
       dense = omega (arith, many, live_is t);
       fits = omega arith;
-      exact = λ e. sym size_is;
-      all_live = λ e. subst AllLive (sym items) (AllLive-live_items (inorder t));
     })
-IsKept-shrunk same_time false t most sparse high fits exact all_live =
-    IsKept-by_height same_time (shrunk false t most) (record { high = high; dense = is_sparse-no most (inorder t) sparse; fits = fits; exact = exact; all_live = all_live })
+IsKept-shrunk false t most sparse high fits =
+    IsKept-by_height (shrunk false t most) (record { high = high; dense = is_sparse-no most (inorder t) sparse; fits = fits })
 
-ordinary : {B : Type 0} (same_time : Bool) (t : Tree (Item B)) (rank : ℕ) → same_time ≡ false → size (fewer same_time t rank) ≡ size t
-ordinary same_time t rank e = ap (λ (b : Bool). size (fewer b t rank)) e ∙ size-fewer_ordinary t rank
-
-same_time_live : {B : Type 0} (same_time : Bool) (xs : List (Item B)) (rank : ℕ) → same_time ≡ true → AllLive xs → AllLive (drop_item same_time xs rank)
-same_time_live same_time xs rank e all = subst (λ (b : Bool). AllLive (drop_item b xs rank)) (sym e) (AllLive-drop_item xs rank all)
-
-items_live : {B : Type 0} (same_time : Bool) (c : Column B) → IsKept B same_time c → same_time ≡ true → AllLive (inorder c.tree)
-unfolding items_of
-items_live same_time c k e = k.all_live e
-
-pub IsKept-drop : {B : Type 0} (same_time : Bool) (rank : ℕ) (c : Column B) → IsKept B same_time c → IsKept B same_time (drop_one same_time rank c)
+pub IsKept-drop : {B : Type 0} (same_time : Bool) (rank : ℕ) (c : Column B) → IsKept B c → IsKept B (drop_one same_time rank c)
 unfolding drop_one pruned
 IsKept-drop same_time rank c k =
     let t = fewer same_time c.tree rank in
-    IsKept-shrunk same_time (is_sparse c.most (inorder t)) t c.most refl
-    (omega (arith, height-fewer same_time c.tree rank, IsKept-high same_time c k))
+    IsKept-shrunk (is_sparse c.most (inorder t)) t c.most refl
+    (omega (arith, height-fewer same_time c.tree rank, IsKept-high c k))
     (omega (arith, size-fewer same_time c.tree rank, k.fits))
-    (λ e. k.exact e ∙ sym (ordinary same_time c.tree rank e))
-    (λ e. subst AllLive (sym (inorder-fewer same_time c.tree rank)) (same_time_live same_time (inorder c.tree) rank e (items_live same_time c k e)))
 
-pub IsKept-lay : {B : Type 0} (same_time : Bool) (c : Column B) → IsKept B same_time c → IsKept B same_time (lay c)
+pub IsKept-lay : {B : Type 0} (c : Column B) → IsKept B c → IsKept B (lay c)
 unfolding lay items_of
-IsKept-lay same_time c k =
+IsKept-lay c k =
     let items = inorder-balanced (inorder c.tree) in
     let size_is = size-balanced (inorder c.tree) in
     let len = length-inorder c.tree in
     let high = height-balanced_limit (inorder c.tree) in
-    IsKept-by_height same_time (lay c) (record {
+    IsKept-by_height (lay c) (record {
       high = subst (λ (n : ℕ). height (balanced (inorder c.tree)) ≤ suc (limit n)) len high;
       dense = omega (arith, ap live items, k.dense, k.fits);
       fits = omega arith;
-      exact = λ e. omega arith;
-      all_live = λ e. subst AllLive (sym items) (k.all_live e);
     })
 
-pub IsKept-apply : {B : Type 0} (same_time : Bool) (operation : Operation B) (c : Column B) → IsKept B same_time c → IsKept B same_time (apply same_time operation c)
+pub IsKept-apply : {B : Type 0} (same_time : Bool) (operation : Operation B) (c : Column B) → IsKept B c → IsKept B (apply same_time operation c)
 unfolding apply
-IsKept-apply same_time (Add p b) c k = IsKept-add same_time p b c k
+IsKept-apply same_time (Add p b) c k = IsKept-add p b c k
 IsKept-apply same_time (Drop rank) c k = IsKept-drop same_time rank c k
-IsKept-apply same_time Lay c k = IsKept-lay same_time c k
+IsKept-apply same_time Lay c k = IsKept-lay c k
 
-pub IsKept-apply_all : {B : Type 0} (same_time : Bool) (operations : List (Operation B)) (c : Column B) → IsKept B same_time c → IsKept B same_time (apply_all same_time operations c)
+pub IsKept-apply_mixed : {B : Type 0} (operations : List (Bool × Operation B)) (c : Column B) → IsKept B c → IsKept B (apply_mixed operations c)
+unfolding apply_mixed
+IsKept-apply_mixed [] c k = k
+IsKept-apply_mixed (moded ∷ operations) c k = IsKept-apply_mixed operations (apply moded.0 moded.1 c) (IsKept-apply moded.0 moded.1 c k)
+
+pub IsKept-apply_all : {B : Type 0} (same_time : Bool) (operations : List (Operation B)) (c : Column B) → IsKept B c → IsKept B (apply_all same_time operations c)
 unfolding apply_all
 IsKept-apply_all same_time [] c k = k
 IsKept-apply_all same_time (operation ∷ operations) c k = IsKept-apply_all same_time operations (apply same_time operation c) (IsKept-apply same_time operation c k)
 
-pub IsKept-empty : (B : Type 0) (same_time : Bool) → IsKept B same_time (empty_column B)
-unfolding empty_column items_of inorder size AllLive
-IsKept-empty B same_time =
-    record {
-      shallow = λ rank h. absurd (omega arith);
-      dense = omega arith;
-      fits = omega arith;
-      exact = λ e. refl;
-      all_live = λ e. tt;
-    }
+pub IsKept-empty : (B : Type 0) → IsKept B (empty_column B)
+unfolding empty_column items_of inorder size
+IsKept-empty B = record { shallow = λ rank h. absurd (omega arith); dense = omega arith; fits = omega arith }
+
+-- ---- how deep items and gaps stand
+
+pub within-height : {A : Type 0} (t : Tree A) (depth : ℕ) → height t ≤ suc depth → IsWithinDepth A t depth
+within-height t depth high =
+    record { items = items-from_height t depth high; gaps = λ rank. omega (arith, length-path t (Gap rank)) }
+
+pub depths_are_limited : {B : Type 0} (c : Column B) → IsKept B c → IsWithinDepth (Item B) c.tree (limit c.most)
+depths_are_limited c k = within-height c.tree (limit c.most) (IsKept-high c k)
+
+-- where so many items have the limit d
+pub IsKept-within : {B : Type 0} (c : Column B) (many d : ℕ) → IsKept B c → c.most ≤ many → 0 < many → 3 ^ d ≤ many * 2 ^ d → many * 2 ^ suc d < 3 ^ suc d → height c.tree ≤ suc d
+IsKept-within c many d k few some low high = omega (arith, IsKept-high c k, limit-le c.most many few, limit-unique many d some low high)
 
 -- the ways of a column of at most 2^32 items
-pub IsKept-short : {B : Type 0} (same_time : Bool) (c : Column B) → IsKept B same_time c → c.most ≤ 2 ^ 32 → height c.tree ≤ 63
-IsKept-short same_time c k few =
-    let high = IsKept-high same_time c k in
-    let low = limit-le c.most (2 ^ 32) few in
-    let at : limit (2 ^ 32) ≡ 54 = limit-unique (2 ^ 32) 54 (omega arith) (omega arith) (omega arith) in
-    omega arith
+pub IsKept-short : {B : Type 0} (c : Column B) → IsKept B c → c.most ≤ 2 ^ 32 → height c.tree ≤ 63
+IsKept-short c k few = omega (arith, IsKept-within c (2 ^ 32) 54 k few (omega arith) (omega arith) (omega arith))
+
+pub depths_follow_size : {B : Type 0} (c : Column B) → IsKept B c → DepthsBySize B c
+depths_follow_size c k =
+    record {
+      any = λ few. within-height c.tree 62 (omega (arith, IsKept-short c k (omega (arith, few))));
+      many = λ few. within-height c.tree 28 (IsKept-within c 98304 28 k few (omega arith) (omega arith) (omega arith));
+      more = λ few. within-height c.tree 35 (IsKept-within c 1572864 35 k few (omega arith) (omega arith) (omega arith));
+    }

@@ -9,6 +9,7 @@ pub mod Depths
 pub mod Removals
 pub mod LiveItems
 pub mod Kept
+pub mod Suits
 pub mod Blind
 pub mod Unseen
 pub mod Summed

@@ -55,25 +55,42 @@ DropIsOnItems B = (same_time : Bool) (rank : ℕ) (c : Column B) → items_of (d
 abbrev pub LayKeepsItems : Type 0 → Type 0
 LayKeepsItems B = (c : Column B) → items_of (lay c) ≡ items_of c
 
--- no item is deeper than the limit, at least two thirds of the greatest number of items are live, and what each mode adds to it
-pub record IsKept (B : Type 0) (same_time : Bool) (c : Column B) : Type 0 where
+-- no item is deeper than the limit, and of the greatest number of items at least two thirds are live; there are at most so many items
+pub record IsKept (B : Type 0) (c : Column B) : Type 0 where
   pub shallow : (rank : ℕ) → rank < size c.tree → length (path c.tree (Found rank)) ≤ limit c.most
   pub dense : 2 * c.most ≤ 3 * live (items_of c)
   pub fits : size c.tree ≤ c.most
-  pub exact : same_time ≡ false → c.most ≡ size c.tree
-  pub all_live : same_time ≡ true → AllLive (items_of c)
 
--- an operation keeps this
+-- what a mode adds where no operation is of the other one: in ordinary mode `most` is the number of items, and in same-time mode each
+-- item is some row's
+unfoldable pub SuitsMode : {B : Type 0} → Bool → Column B → Type 0
+SuitsMode false c = c.most ≡ size c.tree
+SuitsMode true c = AllLive (items_of c)
+
+-- operations one after the other, each in a mode of its own
+unfoldable pub apply_mixed : {B : Type 0} → List (Bool × Operation B) → Column B → Column B
+apply_mixed [] c = c
+apply_mixed (moded ∷ operations) c = apply_mixed operations (apply moded.0 moded.1 c)
+
+-- an operation of either mode keeps a column kept, whatever the modes before it
 abbrev pub ApplyKeeps : Type 0 → Type 0
-ApplyKeeps B = (same_time : Bool) (operation : Operation B) (c : Column B) → IsKept B same_time c → IsKept B same_time (apply same_time operation c)
+ApplyKeeps B = (same_time : Bool) (operation : Operation B) (c : Column B) → IsKept B c → IsKept B (apply same_time operation c)
 
--- so after any list of operations on an empty column it holds
+-- so after any operations on an empty column, each in a mode of its own, it is kept
 abbrev pub OperationsKeep : Type 0 → Type 0
-OperationsKeep B = (same_time : Bool) (operations : List (Operation B)) → IsKept B same_time (apply_all same_time operations (empty_column B))
+OperationsKeep B = (operations : List (Bool × Operation B)) → IsKept B (apply_mixed operations (empty_column B))
 
--- what a later operation does to the items doesn't depend on whether the tree was balanced before
+-- an operation of a mode leaves a column that suits the mode one that does
+abbrev pub ApplySuits : Type 0 → Type 0
+ApplySuits B = (same_time : Bool) (operation : Operation B) (c : Column B) → SuitsMode same_time c → SuitsMode same_time (apply same_time operation c)
+
+-- so after any operations of one mode on an empty column it suits that mode
+abbrev pub OperationsSuit : Type 0 → Type 0
+OperationsSuit B = (same_time : Bool) (operations : List (Operation B)) → SuitsMode same_time (apply_all same_time operations (empty_column B))
+
+-- what a later operation of the mode does to the items doesn't depend on whether the tree was balanced before
 abbrev pub LayIsUnseen : Type 0 → Type 0
-LayIsUnseen B = (same_time : Bool) (operation : Operation B) (c : Column B) → IsKept B same_time c → items_of (apply same_time operation (lay c)) ≡ items_of (apply same_time operation c)
+LayIsUnseen B = (same_time : Bool) (operation : Operation B) (c : Column B) → SuitsMode same_time c → items_of (apply same_time operation (lay c)) ≡ items_of (apply same_time operation c)
 
 -- an operation on other bodies is the same operation
 abbrev pub ApplyIsBlind : Type 0 → Type 0 → Type 0
@@ -99,9 +116,31 @@ OriginsRise B = (same_time : Bool) (operations : List (Operation B)) (c : Column
 abbrev pub OriginsAreBlind : Type 0 → Type 0 → Type 0
 OriginsAreBlind B C = (f : B → C) (same_time : Bool) (operations : List (Operation B)) (c : Column B) → origins same_time (map (map_operation f) operations) (map_column f c) ≡ origins same_time operations c
 
+-- the limit never falls where items are added
+abbrev pub LimitRises : Type 0
+LimitRises = (fewer more : ℕ) → fewer ≤ more → limit fewer ≤ limit more
+
+-- items stand at most so deep, and gaps at most one step deeper
+pub record IsWithinDepth (A : Type 0) (t : Tree A) (depth : ℕ) : Type 0 where
+  pub items : (rank : ℕ) → rank < size t → length (path t (Found rank)) ≤ depth
+  pub gaps : (rank : ℕ) → length (path t (Gap rank)) ≤ suc depth
+
+-- a kept column is within the limit of its greatest number of items
+abbrev pub DepthsAreLimited : Type 0 → Type 0
+DepthsAreLimited B = (c : Column B) → IsKept B c → IsWithinDepth (Item B) c.tree (limit c.most)
+
+-- so a greatest number of items gives a depth: fewer than 2^32 items, and the items that 65,536 or 1,048,576 rows can have
+pub record DepthsBySize (B : Type 0) (c : Column B) : Type 0 where
+  pub any : c.most < 2 ^ 32 → IsWithinDepth (Item B) c.tree 62
+  pub many : c.most ≤ 98304 → IsWithinDepth (Item B) c.tree 28
+  pub more : c.most ≤ 1572864 → IsWithinDepth (Item B) c.tree 35
+
+abbrev pub DepthsFollowSize : Type 0 → Type 0
+DepthsFollowSize B = (c : Column B) → IsKept B c → DepthsBySize B c
+
 -- a column whose greatest number of items is at most 2^32 has ways of at most 63 steps
 abbrev pub WaysAreShort : Type 0 → Type 0
-WaysAreShort B = (same_time : Bool) (c : Column B) → IsKept B same_time c → c.most ≤ 2 ^ 32 → height c.tree ≤ 63
+WaysAreShort B = (c : Column B) → IsKept B c → c.most ≤ 2 ^ 32 → height c.tree ≤ 63
 
 -- one row more at the place of its value, one row fewer, and a balanced tree leave the values of the items increasing
 pub record KeepsOrder (B : Type 0) (v : B → ℕ) (c : Column B) : Type 0 where
@@ -112,6 +151,9 @@ pub record KeepsOrder (B : Type 0) (v : B → ℕ) (c : Column B) : Type 0 where
 abbrev pub OperationsKeepOrder : Type 0 → Type 0
 OperationsKeepOrder B = (v : B → ℕ) (c : Column B) → IsIncreasing (values v (items_of c)) → KeepsOrder B v c
 
--- what a column keeps doesn't depend on bodies
+-- what a column keeps, and what a mode adds, doesn't depend on bodies
 abbrev pub KeptIsBlind : Type 0 → Type 0 → Type 0
-KeptIsBlind B C = (f : B → C) (same_time : Bool) (c : Column B) → IsKept B same_time c → IsKept C same_time (map_column f c)
+KeptIsBlind B C = (f : B → C) (c : Column B) → IsKept B c → IsKept C (map_column f c)
+
+abbrev pub SuitsIsBlind : Type 0 → Type 0 → Type 0
+SuitsIsBlind B C = (f : B → C) (same_time : Bool) (c : Column B) → SuitsMode same_time c → SuitsMode same_time (map_column f c)

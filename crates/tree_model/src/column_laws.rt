@@ -1,5 +1,5 @@
 //! Laws of the operations on a column. Each function is empty: its contract is the law.
-ghost use Rattle.tree_model.specs.ColumnLaws.{AddIsOnItems, ApplyIsBlind, ApplyKeeps, DepthLimits, DropIsOnItems, InsertPutsItem, InsertStays, KeptIsBlind, LayIsUnseen, LayKeepsItems, LimitIsGreatest, OperationsKeep, OperationsKeepOrder, OriginsCompose, OriginsKeepBodies, OriginsAreBlind, OriginsOfNothing, OriginsRise, PartKeepsItems, RemoveTakesItem, WaysAreShort, WholeKeepsLive};
+ghost use Rattle.tree_model.specs.ColumnLaws.{AddIsOnItems, ApplyIsBlind, ApplyKeeps, ApplySuits, DepthLimits, DepthsAreLimited, DepthsFollowSize, DropIsOnItems, InsertPutsItem, InsertStays, KeptIsBlind, LayIsUnseen, LayKeepsItems, LimitIsGreatest, LimitRises, OperationsKeep, OperationsKeepOrder, OperationsSuit, OriginsCompose, OriginsKeepBodies, OriginsAreBlind, OriginsOfNothing, OriginsRise, PartKeepsItems, RemoveTakesItem, SuitsIsBlind, WaysAreShort, WholeKeepsLive};
 
 /// The limit of the depth in a tree of n items is the greatest d with 3^d <= n * 2^d.
 pub fn limit_is_greatest()
@@ -41,18 +41,29 @@ pub fn lay_keeps_items<B>()
     ensures { LayKeepsItems B }
 {}
 
-/// An operation keeps what `IsKept` says of a column.
+/// An operation of either mode keeps what `IsKept` says of a column, whatever the modes before it.
 pub fn apply_keeps<B>()
     ensures { ApplyKeeps B }
 {}
 
-/// After any operations on an empty column no item is deeper than the limit, and 2 * most <= 3 * live. In ordinary mode
-/// `most` is the number of items; in same-time mode each count is at least 1.
+/// After any operations on an empty column, in any mix of modes, no item is deeper than the limit, 2 * most <= 3 * live,
+/// and there are at most `most` items.
 pub fn operations_keep<B>()
     ensures { OperationsKeep B }
 {}
 
-/// What an operation does to the items of a column is the same after it was balanced whole.
+/// An operation of a mode keeps what the mode adds: in ordinary mode `most` is the number of items, in same-time mode each
+/// count is at least 1.
+pub fn apply_suits<B>()
+    ensures { ApplySuits B }
+{}
+
+/// After any operations of one mode on an empty column it has what the mode adds.
+pub fn operations_suit<B>()
+    ensures { OperationsSuit B }
+{}
+
+/// What an operation of a mode does to the items of a column of that mode is the same after it was balanced whole.
 pub fn lay_is_unseen<B>()
     ensures { LayIsUnseen B }
 {}
@@ -97,6 +108,22 @@ pub fn origins_are_blind<B, C>()
     ensures { OriginsAreBlind B C }
 {}
 
+/// More items don't lower the limit of the depth.
+pub fn limit_rises()
+    ensures { LimitRises }
+{}
+
+/// The items of a column that keeps its limit stand within the limit of `most`, and gaps one step deeper at most.
+pub fn depths_are_limited<B>()
+    ensures { DepthsAreLimited B }
+{}
+
+/// So items stand within 62 steps and gaps within 63 where `most` is below 2^32, within 28 and 29 where it is at most
+/// 98,304, and within 35 and 36 where it is at most 1,572,864.
+pub fn depths_follow_size<B>()
+    ensures { DepthsFollowSize B }
+{}
+
 /// A column that keeps its limit, with `most` at most 2^32, has ways of at most 63 steps.
 pub fn ways_are_short<B>()
     ensures { WaysAreShort B }
@@ -110,4 +137,9 @@ pub fn operations_keep_order<B>()
 /// What a column keeps doesn't depend on the bodies.
 pub fn kept_is_blind<B, C>()
     ensures { KeptIsBlind B C }
+{}
+
+/// What a mode adds to a column doesn't depend on the bodies.
+pub fn suits_is_blind<B, C>()
+    ensures { SuitsIsBlind B C }
 {}

@@ -1,8 +1,8 @@
 use Rattle.std.proofs.Common.{ℕ, List, ◌++◌, ap₂, ◌∙◌}
 use Rattle.tree_model.specs.declared.Side.{Side}
 use Rattle.ope_tree.specs.Nodes.{tree_of}
-use Rattle.ope_tree.specs.Listed.{codes_along}
-use Rattle.ope_tree.proofs.RankedCodes.{codes_along-by_rank}
+use Rattle.code_changes.specs.Removal.{codes_along}
+use Rattle.code_changes.proofs.RankedCodes.{codes_along-by_rank}
 use Rattle.ope_tree.proofs.coding.all_codes.Goals as goal
 
 pub returns : goal.returns

@@ -6,7 +6,7 @@ use Rattle.tree_model.proofs.Ways.{length-inorder}
 use Rattle.mope_base.specs.declared.body.Body.{Body}
 use Rattle.path_code.specs.Ways.{way}
 use Rattle.code_changes.specs.Changes.{differing}
-use Rattle.ope_tree.specs.Listed.{codes_along}
+use Rattle.code_changes.specs.Removal.{codes_along}
 use Rattle.ope_tree.specs.Nodes.{tree_of, items_of_entries}
 use Rattle.ope_tree.specs.Settling.{moved_in, added_in}
 use Rattle.ope_tree.proofs.Ancestors.{height-rebalanced}

@@ -1,9 +1,9 @@
 use Rattle.std.proofs.Common.{◌<◌, ◌++◌, ℕ, List, length, get_or, ap, ◌∙◌, arith}
 use Rattle.std.proofs.lemmas.Grind.{get_or_default_zero}
 use Rattle.path_code.specs.Ways.{way}
-use Rattle.ope_tree.specs.Listed.{codes_along}
+use Rattle.code_changes.specs.Removal.{codes_along}
 use Rattle.ope_tree.specs.Nodes.{tree_of}
-use Rattle.ope_tree.proofs.CodeLists.{length-codes_along}
+use Rattle.code_changes.proofs.Shifted.{length-codes_along}
 use Rattle.ope_tree.proofs.settling.parted_codes.Goals as goal
 
 pub remove-own-requires : goal.remove-own-requires

@@ -10,7 +10,7 @@ use Rattle.tree_model.proofs.GraftPaths.{found-left, found-here, found-right}
 use Rattle.path_code.specs.Codes.{code_of}
 use Rattle.path_code.specs.Sums.{item_code}
 use Rattle.code_changes.specs.Columns.{codes_of as codes_by_rank}
-use Rattle.ope_tree.specs.Listed.{codes_along}
+use Rattle.code_changes.specs.Removal.{codes_along}
 
 split_range : (first m n : ℕ) → range_with_len first (m + suc n) ≡ range_with_len first m ++ (first + m) ∷ range_with_len (suc (first + m)) n
 split_range first zero n =

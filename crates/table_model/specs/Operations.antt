@@ -1,0 +1,77 @@
+-- The operations of transactions on several tables: by value on stores, by rank on shelves.
+use Rattle.std.specs.Prelude.{◌≡◌, ℕ, ◌<◌, Bool, List, [], ◌∷◌, length, map, get_or}
+use Rattle.tree_model.specs.declared.Place.{Place}
+use Rattle.tree_model.specs.Items.{change_at}
+use Rattle.tree_model.specs.Columns.{Column}
+use Rattle.table_model.specs.Stores.{Row, Store, Shelf}
+use Rattle.table_model.specs.Steps.{places_by}
+use Rattle.table_model.specs.Changes.{insert_row, delete_rows, insert_cells, delete_numbers}
+
+-- by value: a row of cells into a table, or the rows of these numbers out of it
+pub data Op (B : Type 0) : Type 0 where
+  Insert : ℕ → List B → Op B
+  Delete : ℕ → List ℕ → Op B
+
+-- by rank: a row's bodies at these places of a table, or the rows of these numbers out of it
+pub data RankOp (B : Type 0) : Type 0 where
+  InsertAt : ℕ → List Place → List B → RankOp B
+  DeleteAt : ℕ → List ℕ → RankOp B
+
+unfoldable pub op_on : {B : Type 0} → Bool → (B → ℕ) → Op B → List (Store B) → List (Store B)
+op_on same_time v (Insert table cells) stores = change_at (insert_cells same_time v cells) stores table
+op_on same_time v (Delete table numbers) stores = change_at (delete_numbers same_time v numbers) stores table
+
+-- one after the other
+unfoldable pub ops_on : {B : Type 0} → Bool → (B → ℕ) → List (Op B) → List (Store B) → List (Store B)
+ops_on same_time v [] stores = stores
+ops_on same_time v (op ∷ ops) stores = ops_on same_time v ops (op_on same_time v op stores)
+
+unfoldable pub rank_op_on : {B : Type 0} → Bool → RankOp B → List (Shelf B) → List (Shelf B)
+rank_op_on same_time (InsertAt table places bodies) shelves = change_at (insert_row same_time places bodies) shelves table
+rank_op_on same_time (DeleteAt table numbers) shelves = change_at (delete_rows same_time numbers) shelves table
+
+unfoldable pub rank_ops_on : {B : Type 0} → Bool → List (RankOp B) → List (Shelf B) → List (Shelf B)
+rank_ops_on same_time [] shelves = shelves
+rank_ops_on same_time (op ∷ ops) shelves = rank_ops_on same_time ops (rank_op_on same_time op shelves)
+
+-- ---- places of values
+
+-- the columns of a table, and none where there is no such table
+unfoldable pub columns_in : {B : Type 0} → List (Store B) → ℕ → List (Column B)
+columns_in stores table = get_or (map (λ t. t.columns) stores) table []
+
+-- the rows of a table
+unfoldable pub rows_in : {B : Type 0} → List (Store B) → ℕ → List (Row B)
+rows_in stores table = get_or (map (λ t. t.rows) stores) table []
+
+-- the operation by rank: each cell at the place of its value
+unfoldable pub placed_op : {B : Type 0} → (B → ℕ) → Op B → List (Store B) → RankOp B
+placed_op v (Insert table cells) stores = InsertAt table (places_by v (columns_in stores table) cells) cells
+placed_op v (Delete table numbers) stores = DeleteAt table numbers
+
+-- each by the tables as those before it leave them
+unfoldable pub placed_ops : {B : Type 0} → Bool → (B → ℕ) → List (Op B) → List (Store B) → List (RankOp B)
+placed_ops same_time v [] stores = []
+placed_ops same_time v (op ∷ ops) stores = placed_op v op stores ∷ placed_ops same_time v ops (op_on same_time v op stores)
+
+-- ---- the same over other bodies
+
+unfoldable pub map_op : {B C : Type 0} → (B → C) → Op B → Op C
+map_op f (Insert table cells) = Insert table (map f cells)
+map_op f (Delete table numbers) = Delete table numbers
+
+unfoldable pub map_rank_op : {B C : Type 0} → (B → C) → RankOp B → RankOp C
+map_rank_op f (InsertAt table places bodies) = InsertAt table places (map f bodies)
+map_rank_op f (DeleteAt table numbers) = DeleteAt table numbers
+
+-- ---- operations that fit
+
+-- an INSERT has one cell for each column of its table, which has fewer rows than the limit
+unfoldable pub FitsTables : {B : Type 0} → ℕ → Op B → List (Store B) → Type 0
+FitsTables limit (Insert table cells) stores = (table < length stores) × (length cells ≡ length (columns_in stores table)) × (length (rows_in stores table) < limit)
+FitsTables limit (Delete table numbers) stores = table < length stores
+
+-- each fits the tables as those before it leave them
+unfoldable pub AllFit : {B : Type 0} → Bool → (B → ℕ) → ℕ → List (Op B) → List (Store B) → Type 0
+AllFit same_time v limit [] stores = Unit {0}
+AllFit same_time v limit (op ∷ ops) stores = FitsTables limit op stores × AllFit same_time v limit ops (op_on same_time v op stores)

@@ -1,0 +1,4 @@
+//! Tables by value and tables by rank: definitions and laws on which tables, versions and runs stand. Nothing here runs.
+#![tactic(auto)]
+
+pub mod examples;

@@ -16,36 +16,36 @@ use Rattle.tree_model.proofs.Kept.{items-add, items-drop, items-lay}
 
 -- ---- the values
 
-IsBelowAll-rest : (v x : ℕ) (xs : List ℕ) → IsBelowAll v (x ∷ xs) → IsBelowAll v xs
+pub IsBelowAll-rest : (v x : ℕ) (xs : List ℕ) → IsBelowAll v (x ∷ xs) → IsBelowAll v xs
 unfolding IsBelowAll
 IsBelowAll-rest v x xs h = h.1
 
-IsBelowAll-remove : (v : ℕ) (xs : List ℕ) (rank : ℕ) → IsBelowAll v xs → IsBelowAll v (remove xs rank)
+pub IsBelowAll-remove : (v : ℕ) (xs : List ℕ) (rank : ℕ) → IsBelowAll v xs → IsBelowAll v (remove xs rank)
 unfolding IsBelowAll
 IsBelowAll-remove v [] zero h = h
 IsBelowAll-remove v [] (suc rank) h = h
 IsBelowAll-remove v (x ∷ xs) zero h = h.1
 IsBelowAll-remove v (x ∷ xs) (suc rank) h = (h.0, IsBelowAll-remove v xs rank h.1)
 
-IsIncreasing-remove : (xs : List ℕ) (rank : ℕ) → IsIncreasing xs → IsIncreasing (remove xs rank)
+pub IsIncreasing-remove : (xs : List ℕ) (rank : ℕ) → IsIncreasing xs → IsIncreasing (remove xs rank)
 unfolding IsIncreasing
 IsIncreasing-remove [] zero up = up
 IsIncreasing-remove [] (suc rank) up = up
 IsIncreasing-remove (x ∷ xs) zero up = up.1
 IsIncreasing-remove (x ∷ xs) (suc rank) up = (IsBelowAll-remove x xs rank up.0, IsIncreasing-remove xs rank up.1)
 
-values-remove : {B : Type 0} (v : B → ℕ) (items : List (Item B)) (rank : ℕ) → values v (remove items rank) ≡ remove (values v items) rank
+pub values-remove : {B : Type 0} (v : B → ℕ) (items : List (Item B)) (rank : ℕ) → values v (remove items rank) ≡ remove (values v items) rank
 unfolding values
 values-remove v [] zero = refl
 values-remove v [] (suc rank) = refl
 values-remove v (x ∷ items) zero = refl
 values-remove v (x ∷ items) (suc rank) = ap (λ (rest : List ℕ). v x.body ∷ rest) (values-remove v items rank)
 
-values-one_less : {B : Type 0} (v : B → ℕ) (items : List (Item B)) (rank : ℕ) → values v (change_at one_less items rank) ≡ values v items
+pub values-one_less : {B : Type 0} (v : B → ℕ) (items : List (Item B)) (rank : ℕ) → values v (change_at one_less items rank) ≡ values v items
 unfolding values one_less
 values-one_less {B} v items rank = map-change_at (λ (item : Item B). v item.body) one_less (λ x. refl) items rank
 
-IsIncreasing-gone : {B : Type 0} (v : B → ℕ) (b : Bool) (items : List (Item B)) (rank : ℕ) → IsIncreasing (values v items) → IsIncreasing (values v (gone b items rank))
+pub IsIncreasing-gone : {B : Type 0} (v : B → ℕ) (b : Bool) (items : List (Item B)) (rank : ℕ) → IsIncreasing (values v items) → IsIncreasing (values v (gone b items rank))
 unfolding gone
 IsIncreasing-gone v true items rank up = subst IsIncreasing (sym (values-remove v items rank)) (IsIncreasing-remove (values v items) rank up)
 IsIncreasing-gone v false items rank up = up
@@ -56,7 +56,7 @@ IsIncreasing-drop_item v same_time items rank up =
     let fewer = change_at one_less items rank in
     IsIncreasing-gone v (same_time && is_dead (slice_get fewer rank)) fewer rank (subst IsIncreasing (sym (values-one_less v items rank)) up)
 
-IsBelowAll-live : {B : Type 0} (v : B → ℕ) (n : ℕ) (items : List (Item B)) → IsBelowAll n (values v items) → IsBelowAll n (values v (live_items items))
+pub IsBelowAll-live : {B : Type 0} (v : B → ℕ) (n : ℕ) (items : List (Item B)) → IsBelowAll n (values v items) → IsBelowAll n (values v (live_items items))
 unfolding values IsBelowAll
 IsBelowAll-live {B} v n [] h = subst (λ (xs : List (Item B)). IsBelowAll n (values v xs)) (sym live_items-nil) h
 IsBelowAll-live {B} v n (x ∷ items) h =
@@ -74,7 +74,7 @@ IsIncreasing-live {B} v (x ∷ items) up =
       | inr none ↦ subst (λ (xs : List (Item B)). IsIncreasing (values v xs)) (sym (live_items-no x items none)) (IsIncreasing-live v items up.1)
     ]
 
-IsIncreasing-swept : {B : Type 0} (v : B → ℕ) (b : Bool) (items : List (Item B)) → IsIncreasing (values v items) → IsIncreasing (values v (swept b items))
+pub IsIncreasing-swept : {B : Type 0} (v : B → ℕ) (b : Bool) (items : List (Item B)) → IsIncreasing (values v items) → IsIncreasing (values v (swept b items))
 unfolding swept
 IsIncreasing-swept v true items up = IsIncreasing-live v items up
 IsIncreasing-swept v false items up = up
@@ -92,7 +92,7 @@ operations_keep_order {B} v c up =
 
 -- ---- other bodies
 
-AllLive-map : {B C : Type 0} (f : B → C) (items : List (Item B)) → AllLive items → AllLive (map (map_item f) items)
+pub AllLive-map : {B C : Type 0} (f : B → C) (items : List (Item B)) → AllLive items → AllLive (map (map_item f) items)
 unfolding AllLive map_item
 AllLive-map f [] all = tt
 AllLive-map f (x ∷ items) all = (all.0, AllLive-map f items all.1)

@@ -22,3 +22,7 @@ pub mod ColumnOrder
 pub mod CarriedRanks
 pub mod RankSteps
 pub mod RankLaws
+pub mod TalliedRows
+pub mod TalliedItems
+pub mod SplitPlaces
+pub mod Walked

@@ -224,13 +224,13 @@ dropped-stays low high k same_time most at xs up held =
 
 -- ---- no body is looked at
 
-remove-map : {A B : Type 0} (g : A → B) (xs : List A) (at : ℕ) → remove (map g xs) at ≡ map g (remove xs at)
+pub remove-map : {A B : Type 0} (g : A → B) (xs : List A) (at : ℕ) → remove (map g xs) at ≡ map g (remove xs at)
 remove-map g [] zero = refl
 remove-map g [] (suc at) = refl
 remove-map g (x ∷ xs) zero = refl
 remove-map g (x ∷ xs) (suc at) = ap (λ (rest : List _). g x ∷ rest) (remove-map g xs at)
 
-gone-map : {A B : Type 0} (g : A → B) (b : Bool) (xs : List A) (at : ℕ) → gone b (map g xs) at ≡ map g (gone b xs at)
+pub gone-map : {A B : Type 0} (g : A → B) (b : Bool) (xs : List A) (at : ℕ) → gone b (map g xs) at ≡ map g (gone b xs at)
 unfolding gone
 gone-map g true xs at = remove-map g xs at
 gone-map g false xs at = refl

@@ -19,18 +19,18 @@ unfoldable pub IsOneMore : ℕ → List ℕ → List ℕ → Type 0
 IsOneMore key earlier later = (other : ℕ) → tally later other ≡ one_if (key == other) (tally earlier other)
 
 -- the counts with that of a rank one higher, and one lower
-unfoldable pub count_raised : List ℕ → ℕ → List ℕ
-count_raised counts rank = change_at (λ count. suc count) counts rank
+unfoldable pub raised : List ℕ → ℕ → List ℕ
+raised counts rank = change_at (λ count. suc count) counts rank
 
-unfoldable pub count_lowered : List ℕ → ℕ → List ℕ
-count_lowered counts rank = change_at (λ count. count - 1) counts rank
+unfoldable pub lowered : List ℕ → ℕ → List ℕ
+lowered counts rank = change_at (λ count. count - 1) counts rank
 
 -- of a list beside counts the elements with a count above 0
-unfoldable pub with_count : {A : Type 0} → List ℕ → List A → List A
-with_count [] xs = []
-with_count (count ∷ counts) [] = []
-with_count (zero ∷ counts) (x ∷ xs) = with_count counts xs
-with_count (suc count ∷ counts) (x ∷ xs) = x ∷ with_count counts xs
+unfoldable pub with_rows : {A : Type 0} → List ℕ → List A → List A
+with_rows [] xs = []
+with_rows (count ∷ counts) [] = []
+with_rows (zero ∷ counts) (x ∷ xs) = with_rows counts xs
+with_rows (suc count ∷ counts) (x ∷ xs) = x ∷ with_rows counts xs
 
 -- how many rows have each of the items
 unfoldable pub counts : {B : Type 0} → List (Item B) → List ℕ

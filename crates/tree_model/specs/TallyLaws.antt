@@ -6,7 +6,7 @@ use Rattle.tree_model.specs.Trees.{size}
 use Rattle.tree_model.specs.Places.{place, IsIncreasing}
 use Rattle.tree_model.specs.Items.{Item, values, live}
 use Rattle.tree_model.specs.Columns.{Column, items_of, add, drop_one}
-use Rattle.tree_model.specs.Tallies.{Tallied, IsOneMore, count_raised, count_lowered, with_count, TalliedItems}
+use Rattle.tree_model.specs.Tallies.{Tallied, IsOneMore, raised, lowered, with_rows, TalliedItems}
 
 -- a row put in anywhere is one more of its key, and one taken out one fewer
 pub record TalliesRows (rows : List ℕ) : Type 0 where
@@ -19,7 +19,7 @@ OneMoreRow = (rows : List ℕ) → TalliesRows rows
 
 -- one more row of a key that is there, or of a new one
 pub record TalliesMore (keys counts_are rows : List ℕ) (key : ℕ) (more : List ℕ) : Type 0 where
-  pub found : (rank : ℕ) → place keys key ≡ Found rank → Tallied keys (count_raised counts_are rank) more
+  pub found : (rank : ℕ) → place keys key ≡ Found rank → Tallied keys (raised counts_are rank) more
   pub new : (rank : ℕ) → place keys key ≡ Gap rank → Tallied (insert keys rank key) (insert counts_are rank 1) more
 
 abbrev pub TalliedMore : Type 0
@@ -27,11 +27,11 @@ TalliedMore = (keys counts_are rows : List ℕ) (key : ℕ) (more : List ℕ) �
 
 -- one row fewer of a key
 abbrev pub TalliedFewer : Type 0
-TalliedFewer = (keys counts_are rows : List ℕ) (rank d : ℕ) (fewer : List ℕ) → Tallied keys counts_are rows → rank < length keys → IsOneMore (get_or keys rank d) fewer rows → Tallied keys (count_lowered counts_are rank) fewer
+TalliedFewer = (keys counts_are rows : List ℕ) (rank d : ℕ) (fewer : List ℕ) → Tallied keys counts_are rows → rank < length keys → IsOneMore (get_or keys rank d) fewer rows → Tallied keys (lowered counts_are rank) fewer
 
 -- the keys without rows taken out, all of them or one
 pub record TalliesSlim (keys counts_are rows : List ℕ) : Type 0 where
-  pub swept : Tallied (with_count counts_are keys) (with_count counts_are counts_are) rows
+  pub swept : Tallied (with_rows counts_are keys) (with_rows counts_are counts_are) rows
   pub one : (rank : ℕ) → get_or counts_are rank 1 ≡ 0 → Tallied (remove keys rank) (remove counts_are rank) rows
 
 abbrev pub TalliedSlim : Type 0

@@ -23,6 +23,10 @@ walk v (node l y r) x = onward (side_by (nat_lt x (v y)) (nat_lt (v y) x)) (walk
 unfoldable pub place_in : {A : Type 0} → (A → ℕ) → Tree A → ℕ → Place
 place_in v t x = place (map v (inorder t)) x
 
+-- the way from the root to that place
+unfoldable pub way_to_value : {A : Type 0} → (A → ℕ) → Tree A → ℕ → List Side
+way_to_value v t x = path t (place_in v t x)
+
 -- the way leads to what stands at a place: the item of its rank, or the gap
 unfoldable pub LeadsTo : {A : Type 0} → A → Tree A → List Side → Place → Type 0
 LeadsTo {A} d t way (Found rank) = LeadsToItem A t way rank (get_or (inorder t) rank d)
@@ -30,7 +34,7 @@ LeadsTo {A} d t way (Gap rank) = LeadsToGap A t way rank
 
 -- the walk goes the way to the value's place, and ends at what stands there
 pub record GoesToPlace (A : Type 0) (v : A → ℕ) (t : Tree A) (x : ℕ) (d : A) : Type 0 where
-  pub way_is : walk v t x ≡ path t (place_in v t x)
+  pub way_is : walk v t x ≡ way_to_value v t x
   pub leads : LeadsTo d t (walk v t x) (place_in v t x)
 
 abbrev pub WalkGoesToPlace : Type 0 → Type 0

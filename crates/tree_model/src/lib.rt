@@ -5,6 +5,7 @@ pub mod column_laws;
 pub mod laws;
 pub mod part_laws;
 pub mod row_laws;
+pub mod tally_laws;
 
 /// One step down a binary search tree, to the subtree of the smaller or of the greater items.
 #[derive(Clone, Copy, PartialEq, Eq, Debug)]

@@ -1,5 +1,6 @@
 //! Laws of ways and of what stands at their ends. Each function is empty: its contract is the law.
 ghost use Rattle.tree_model.specs.Parts.{GapIsAtWay, ItemIsAtWay, PartStaysOutside, WayOfGap, WayOfItem, WaysInNewPart, WaysInPart};
+ghost use Rattle.tree_model.specs.Walks.{WalkGoesToPlace};
 
 /// The way to the item of a rank leads to that item, which has so many items before it.
 pub fn item_is_at_way<T>()
@@ -34,4 +35,9 @@ pub fn part_stays_outside<T>()
 /// The items within a new part stand at the way of the part and then at their ways in it.
 pub fn ways_in_new_part<T>()
     ensures { WaysInNewPart T }
+{}
+
+/// A walk that compares at each item and turns goes the way to the value's place, and ends at what stands there.
+pub fn walk_goes_to_place<T>()
+    ensures { WalkGoesToPlace T }
 {}

@@ -1,1 +1,4 @@
 pub mod Computed
+pub mod Lists
+pub mod Maps
+pub mod StoreMaps

@@ -5,3 +5,7 @@ pub mod Soundness
 pub mod Operations
 pub mod Standing
 pub mod Examples
+pub mod ShelfLaws
+pub mod StoreLaws
+pub mod OperationLaws
+pub mod StandingLaws

@@ -6,6 +6,7 @@ use Rattle.tree_model.specs.Columns.{Column}
 use Rattle.table_model.specs.Stores.{Row, Store, Shelf}
 use Rattle.table_model.specs.Steps.{places_by}
 use Rattle.table_model.specs.Changes.{insert_row, delete_rows, insert_cells, delete_numbers}
+use Rattle.table_model.specs.Soundness.{Sound, Same}
 
 -- by value: a row of cells into a table, or the rows of these numbers out of it
 pub data Op (B : Type 0) : Type 0 where
@@ -75,3 +76,15 @@ FitsTables limit (Delete table numbers) stores = table < length stores
 unfoldable pub AllFit : {B : Type 0} → Bool → (B → ℕ) → ℕ → List (Op B) → List (Store B) → Type 0
 AllFit same_time v limit [] stores = Unit {0}
 AllFit same_time v limit (op ∷ ops) stores = FitsTables limit op stores × AllFit same_time v limit ops (op_on same_time v op stores)
+
+-- ---- sound tables, and tables that differ by balancing alone
+
+unfoldable pub AllSound : {B : Type 0} → (B → ℕ) → Bool → ℕ → List (Store B) → Type 0
+AllSound v same_time limit [] = Unit {0}
+AllSound {B} v same_time limit (t ∷ stores) = Sound B v same_time limit t × AllSound v same_time limit stores
+
+unfoldable pub AllSame : {B : Type 0} → List (Store B) → List (Store B) → Type 0
+AllSame [] [] = Unit {0}
+AllSame [] (u ∷ others) = ⊥
+AllSame (t ∷ stores) [] = ⊥
+AllSame {B} (t ∷ stores) (u ∷ others) = Same B t u × AllSame stores others

@@ -1,0 +1,35 @@
+-- A table by rank that stands for a table by value: the statements of laws that this crate's functions without a body prove.
+use Rattle.std.specs.Prelude.{◌≡◌, ℕ, ◌<◌, Bool, List, length, map, get_or}
+use Rattle.tree_model.specs.Items.{values}
+use Rattle.tree_model.specs.Columns.{items_of}
+use Rattle.table_model.specs.Stores.{Store, Kept, Shelf, empty_store, empty_shelf}
+use Rattle.table_model.specs.Steps.{places_by}
+use Rattle.table_model.specs.Changes.{insert_row, delete_row, delete_rows, lay_column, insert_cells, delete_number, delete_numbers, lay_store}
+use Rattle.table_model.specs.Soundness.{column_at}
+use Rattle.table_model.specs.Standing.{Stands}
+
+abbrev pub EmptyStands : Type 0 → Type 0 → Type 0
+EmptyStands B C = (seal : C → B) (v : C → ℕ) (same_time : Bool) (limit columns : ℕ) → Stands B C seal v same_time limit (empty_shelf B columns) (empty_store C columns)
+
+-- the shelf after an operation by rank stands for the store after the operation by value; an INSERT's bodies are the sealed cells, at
+-- the places of their values
+pub record KeepsStanding (B C : Type 0) (seal : C → B) (v : C → ℕ) (same_time : Bool) (limit : ℕ) (table : Shelf B) (t : Store C) : Type 0 where
+  pub inserts : (cells : List C) → length cells ≡ length t.columns → length t.rows < limit → Stands B C seal v same_time limit (insert_row same_time (places_by v t.columns cells) (map seal cells) table) (insert_cells same_time v cells t)
+  pub deletes : (number : ℕ) → Stands B C seal v same_time limit (delete_row same_time number table) (delete_number same_time v number t)
+  pub deletes_each : (numbers : List ℕ) → Stands B C seal v same_time limit (delete_rows same_time numbers table) (delete_numbers same_time v numbers t)
+  pub lays : (column : ℕ) → Stands B C seal v same_time limit (lay_column same_time column table) (lay_store same_time column t)
+
+abbrev pub OperationsKeepStanding : Type 0 → Type 0 → Type 0
+OperationsKeepStanding B C = (seal : C → B) (v : C → ℕ) (same_time : Bool) (limit : ℕ) (table : Shelf B) (t : Store C) → Stands B C seal v same_time limit table t → KeepsStanding B C seal v same_time limit table t
+
+-- for a reading u of bodies: what the rows' bodies read as in a column, and their ranks there
+unfoldable pub readings_at : {B : Type 0} → (B → ℕ) → ℕ → List (Kept B) → List ℕ
+readings_at u column kept = map (λ row. get_or (map u row.bodies) column 0) kept
+
+unfoldable pub ranks_at : {B : Type 0} → ℕ → List (Kept B) → List ℕ
+ranks_at column kept = map (λ row. get_or row.ranks column 0) kept
+
+-- where sealed cells read as their values, each row's body in a column reads as the item of its rank does
+abbrev pub BodiesReadAsItems : Type 0 → Type 0 → Type 0
+BodiesReadAsItems B C = (seal : C → B) (v : C → ℕ) (same_time : Bool) (limit : ℕ) (table : Shelf B) (t : Store C) (u : B → ℕ) (column : ℕ) → Stands B C seal v same_time limit table t → ((c : C) → u (seal c) ≡ v c) → column < length table.columns
+    → readings_at u column table.kept ≡ map (λ rank. get_or (values u (items_of (column_at table.columns column))) rank 0) (ranks_at column table.kept)

@@ -2,3 +2,8 @@ pub mod Computed
 pub mod Lists
 pub mod Maps
 pub mod StoreMaps
+pub mod Following
+pub mod Numbers
+pub mod Rows
+pub mod Sound
+pub mod Bridge

@@ -3,3 +3,4 @@
 
 pub mod examples;
 pub mod shelf_laws;
+pub mod store_laws;

@@ -1,6 +1,17 @@
 //! Laws of tables by rank and by value: they are one, and nothing by rank looks at bodies. Each function is empty: its
 //! contract is the law.
-ghost use Rattle.table_model.specs.ShelfLaws.{MapsNothing, ShelvesAreBlind, StoresMap, TablesCompose};
+ghost use Rattle.table_model.specs.ShelfLaws.{EmptyShelf, MapsNothing, ShelvesAreBlind, StoresMap, TablesCompose, ValuesAreRanks};
+
+/// The table by rank of a sound table after INSERT, DELETE of one row or many and an install by value is the operation by
+/// rank on its table by rank, in both modes.
+pub fn values_are_ranks<B>()
+    ensures { ValuesAreRanks B }
+{}
+
+/// A table without rows by value is one by rank.
+pub fn empty_shelf<B>()
+    ensures { EmptyShelf B }
+{}
 
 /// An operation by rank does to a table of other bodies what it does to these.
 pub fn shelves_are_blind<B, C>()

@@ -1,0 +1,23 @@
+//! Laws of sound tables, and of tables that differ by balancing alone. Each function is empty: its contract is the law.
+ghost use Rattle.table_model.specs.StoreLaws.{EmptyIsSound, OperationsKeepSound, RowsOwnItems, SoundFitsRows};
+
+/// A table without rows is sound.
+pub fn empty_is_sound<B>()
+    ensures { EmptyIsSound B }
+{}
+
+/// INSERT under fewer rows than the limit, DELETE of one row or many and an install leave a sound table sound.
+pub fn operations_keep_sound<B>()
+    ensures { OperationsKeepSound B }
+{}
+
+/// A column of a sound table has at most half as many items again as the limit has rows: 98,304 for 65,536 rows, and
+/// 1,572,864 for 1,048,576. Its ways have at most 29 steps, or 36.
+pub fn sound_fits_rows<B>()
+    ensures { SoundFitsRows B }
+{}
+
+/// Each row of a sound table has an item in each column, which reads as the row's cell and stands at the rank of its value.
+pub fn rows_own_items<B>()
+    ensures { RowsOwnItems B }
+{}

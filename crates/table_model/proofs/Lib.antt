@@ -7,3 +7,5 @@ pub mod Numbers
 pub mod Rows
 pub mod Sound
 pub mod Bridge
+pub mod SoundMaps
+pub mod SameTables

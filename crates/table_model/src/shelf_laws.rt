@@ -1,6 +1,6 @@
 //! Laws of tables by rank and by value: they are one, and nothing by rank looks at bodies. Each function is empty: its
 //! contract is the law.
-ghost use Rattle.table_model.specs.ShelfLaws.{EmptyShelf, MapsNothing, ShelvesAreBlind, StoresMap, TablesCompose, ValuesAreRanks};
+ghost use Rattle.table_model.specs.ShelfLaws.{EmptyShelf, MapsNothing, ShelvesAreBlind, SoundIsBlind, StoresMap, TablesCompose, ValuesAreRanks};
 
 /// The table by rank of a sound table after INSERT, DELETE of one row or many and an install by value is the operation by
 /// rank on its table by rank, in both modes.
@@ -31,4 +31,9 @@ pub fn tables_compose<A, B, C>()
 /// A map that changes no body changes no table.
 pub fn maps_nothing<B>()
     ensures { MapsNothing B }
+{}
+
+/// A table of mapped cells is sound where the table is for the values that the mapped cells tell.
+pub fn sound_is_blind<B, C>()
+    ensures { SoundIsBlind B C }
 {}

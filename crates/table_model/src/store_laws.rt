@@ -1,5 +1,5 @@
 //! Laws of sound tables, and of tables that differ by balancing alone. Each function is empty: its contract is the law.
-ghost use Rattle.table_model.specs.StoreLaws.{EmptyIsSound, OperationsKeepSound, RowsOwnItems, SoundFitsRows};
+ghost use Rattle.table_model.specs.StoreLaws.{EmptyIsSound, IsEquivalence, OperationsKeepSound, RowsOwnItems, SameBehaves, SoundFitsRows};
 
 /// A table without rows is sound.
 pub fn empty_is_sound<B>()
@@ -20,4 +20,15 @@ pub fn sound_fits_rows<B>()
 /// Each row of a sound table has an item in each column, which reads as the row's cell and stands at the rank of its value.
 pub fn rows_own_items<B>()
     ensures { RowsOwnItems B }
+{}
+
+/// On two sound tables that differ by the balance of their trees alone values have the same places and ranks, and each
+/// operation leaves two such tables.
+pub fn same_behaves<B>()
+    ensures { SameBehaves B }
+{}
+
+/// An install leaves the same table but for balance, and to be the same but for balance is an equivalence.
+pub fn is_equivalence<B>()
+    ensures { IsEquivalence B }
 {}

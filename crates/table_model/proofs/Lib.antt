@@ -9,3 +9,4 @@ pub mod Sound
 pub mod Bridge
 pub mod SoundMaps
 pub mod SameTables
+pub mod Sealed

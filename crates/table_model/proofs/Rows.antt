@@ -62,7 +62,7 @@ ranks-new v same_time (c ∷ cs) (b ∷ new) =
 
 -- ---- all rows
 
-held-cons : (x y : ℕ) (xs : List ℕ) → holds x xs ≡ true → holds x (y ∷ xs) ≡ true
+pub held-cons : (x y : ℕ) (xs : List ℕ) → holds x xs ≡ true → holds x (y ∷ xs) ≡ true
 unfolding holds
 held-cons x y xs h = either (eqb y x) (holds x xs) h
   where

@@ -10,3 +10,4 @@ pub mod Bridge
 pub mod SoundMaps
 pub mod SameTables
 pub mod Sealed
+pub mod Ops

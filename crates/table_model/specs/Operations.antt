@@ -67,9 +67,14 @@ map_rank_op f (DeleteAt table numbers) = DeleteAt table numbers
 
 -- ---- operations that fit
 
--- an INSERT has one cell for each column of its table, which has fewer rows than the limit
+-- an INSERT's table is there, has as many columns as there are cells, and fewer rows than the limit
+pub record FitsInsert (B : Type 0) (limit table : ℕ) (cells : List B) (stores : List (Store B)) : Type 0 where
+  pub there : table < length stores
+  pub wide : length cells ≡ length (columns_in stores table)
+  pub room : length (rows_in stores table) < limit
+
 unfoldable pub FitsTables : {B : Type 0} → ℕ → Op B → List (Store B) → Type 0
-FitsTables limit (Insert table cells) stores = (table < length stores) × (length cells ≡ length (columns_in stores table)) × (length (rows_in stores table) < limit)
+FitsTables {B} limit (Insert table cells) stores = FitsInsert B limit table cells stores
 FitsTables limit (Delete table numbers) stores = table < length stores
 
 -- each fits the tables as those before it leave them

@@ -5,3 +5,4 @@ pub mod examples;
 pub mod shelf_laws;
 pub mod store_laws;
 pub mod standing_laws;
+pub mod operation_laws;

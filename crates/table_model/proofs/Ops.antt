@@ -1,0 +1,178 @@
+-- Operations on several tables.
+use Rattle.std.proofs.Common.{◌≡◌, ℕ, suc, zero, ◌+◌, ◌<◌, ◌≤◌, Bool, List, [], ◌∷◌, ◌++◌, length, map, get_or, refl, ap, ap₂, ◌∙◌, sym, subst, arith}
+use Rattle.std.proofs.lemmas.List.{length-map}
+use Rattle.tree_model.specs.declared.Place.{Place}
+use Rattle.tree_model.specs.Items.{Item, change_at}
+use Rattle.tree_model.specs.Columns.{Column, items_of, map_column}
+use Rattle.tree_model.proofs.Changes.{length-change_at, map-change_at_other}
+use Rattle.table_model.specs.Stores.{Row, Store, Kept, Shelf, map_row, map_store, map_shelf, shelf_of}
+use Rattle.table_model.specs.Steps.{places_by}
+use Rattle.table_model.specs.Changes.{insert_row, delete_rows, insert_cells, delete_numbers}
+use Rattle.table_model.specs.Soundness.{Sound, Same}
+use Rattle.table_model.specs.Operations.{Op, Insert, Delete, RankOp, InsertAt, DeleteAt, op_on, ops_on, rank_op_on, rank_ops_on, columns_in, rows_in, placed_op, placed_ops, map_op, map_rank_op, FitsTables, AllFit, AllSound, AllSame}
+use Rattle.table_model.specs.OperationLaws.{AreByRank, OpsAreBlind, AllDoSame}
+use Rattle.table_model.proofs.Maps.{shelves_are_blind}
+use Rattle.table_model.proofs.StoreMaps.{places_by-map, stores_map}
+use Rattle.table_model.proofs.Sound.{insert-sound, deletes-sound}
+use Rattle.table_model.proofs.Bridge.{shelf_of-insert, shelf_of-deletes}
+use Rattle.table_model.proofs.SameTables.{places_by-same, same_behaves}
+
+-- ---- sound tables, and by rank
+
+inserts-sound : {B : Type 0} (v : B → ℕ) (same_time : Bool) (limit : ℕ) (cells : List B) (stores : List (Store B)) (table : ℕ) → length cells ≡ length (columns_in stores table) → length (rows_in stores table) < limit → AllSound v same_time limit stores → AllSound v same_time limit (change_at (insert_cells same_time v cells) stores table)
+unfolding change_at columns_in rows_in AllSound
+inserts-sound v same_time limit cells [] table wide room sound = sound
+inserts-sound v same_time limit cells (t ∷ stores) zero wide room sound = (insert-sound v same_time limit t sound.0 cells wide room, sound.1)
+inserts-sound v same_time limit cells (t ∷ stores) (suc table) wide room sound = (sound.0, inserts-sound v same_time limit cells stores table wide room sound.1)
+
+deletes_in-sound : {B : Type 0} (v : B → ℕ) (same_time : Bool) (limit : ℕ) (numbers : List ℕ) (stores : List (Store B)) (table : ℕ) → AllSound v same_time limit stores → AllSound v same_time limit (change_at (delete_numbers same_time v numbers) stores table)
+unfolding change_at AllSound
+deletes_in-sound v same_time limit numbers [] table sound = sound
+deletes_in-sound v same_time limit numbers (t ∷ stores) zero sound = (deletes-sound v same_time limit t sound.0 numbers, sound.1)
+deletes_in-sound v same_time limit numbers (t ∷ stores) (suc table) sound = (sound.0, deletes_in-sound v same_time limit numbers stores table sound.1)
+
+pub op-sound : {B : Type 0} (v : B → ℕ) (same_time : Bool) (limit : ℕ) (op : Op B) (stores : List (Store B)) → AllSound v same_time limit stores → FitsTables limit op stores → AllSound v same_time limit (op_on same_time v op stores)
+unfolding op_on FitsTables
+op-sound v same_time limit (Insert table cells) stores sound fits = inserts-sound v same_time limit cells stores table fits.wide fits.room sound
+op-sound v same_time limit (Delete table numbers) stores sound fits = deletes_in-sound v same_time limit numbers stores table sound
+
+inserts-shelves : {B : Type 0} (v : B → ℕ) (same_time : Bool) (limit : ℕ) (cells : List B) (stores : List (Store B)) (table : ℕ) → AllSound v same_time limit stores
+    → map (shelf_of v) (change_at (insert_cells same_time v cells) stores table) ≡ change_at (insert_row same_time (places_by v (columns_in stores table) cells) cells) (map (shelf_of v) stores) table
+unfolding change_at columns_in AllSound
+inserts-shelves v same_time limit cells [] table sound = refl
+inserts-shelves v same_time limit cells (t ∷ stores) zero sound = ap (λ (s : Shelf _). s ∷ map (shelf_of v) stores) (shelf_of-insert v same_time limit t sound.0 cells)
+inserts-shelves v same_time limit cells (t ∷ stores) (suc table) sound = ap (λ (rest : List (Shelf _)). shelf_of v t ∷ rest) (inserts-shelves v same_time limit cells stores table sound.1)
+
+deletes-shelves : {B : Type 0} (v : B → ℕ) (same_time : Bool) (limit : ℕ) (numbers : List ℕ) (stores : List (Store B)) (table : ℕ) → AllSound v same_time limit stores
+    → map (shelf_of v) (change_at (delete_numbers same_time v numbers) stores table) ≡ change_at (delete_rows same_time numbers) (map (shelf_of v) stores) table
+unfolding change_at AllSound
+deletes-shelves v same_time limit numbers [] table sound = refl
+deletes-shelves v same_time limit numbers (t ∷ stores) zero sound = ap (λ (s : Shelf _). s ∷ map (shelf_of v) stores) (shelf_of-deletes v same_time limit t sound.0 numbers)
+deletes-shelves v same_time limit numbers (t ∷ stores) (suc table) sound = ap (λ (rest : List (Shelf _)). shelf_of v t ∷ rest) (deletes-shelves v same_time limit numbers stores table sound.1)
+
+pub op-shelves : {B : Type 0} (v : B → ℕ) (same_time : Bool) (limit : ℕ) (op : Op B) (stores : List (Store B)) → AllSound v same_time limit stores → map (shelf_of v) (op_on same_time v op stores) ≡ rank_op_on same_time (placed_op v op stores) (map (shelf_of v) stores)
+unfolding op_on rank_op_on placed_op
+op-shelves v same_time limit (Insert table cells) stores sound = inserts-shelves v same_time limit cells stores table sound
+op-shelves v same_time limit (Delete table numbers) stores sound = deletes-shelves v same_time limit numbers stores table sound
+
+pub ops_are_by_rank : {B : Type 0} (v : B → ℕ) (same_time : Bool) (limit : ℕ) (ops : List (Op B)) (stores : List (Store B)) → AllSound v same_time limit stores → AllFit same_time v limit ops stores → AreByRank B v same_time limit ops stores
+unfolding ops_on rank_ops_on placed_ops AllFit
+ops_are_by_rank v same_time limit [] stores sound fit = record { sound = sound; shelves = refl }
+ops_are_by_rank v same_time limit (op ∷ ops) stores sound fit =
+    let rest = ops_are_by_rank v same_time limit ops (op_on same_time v op stores) (op-sound v same_time limit op stores sound fit.0) fit.1 in
+    record {
+      sound = rest.sound;
+      shelves = rest.shelves ∙ ap (rank_ops_on same_time (placed_ops same_time v ops (op_on same_time v op stores))) (op-shelves v same_time limit op stores sound);
+    }
+
+-- ---- nothing looks at bodies
+
+rank_op-map : {B C : Type 0} (f : B → C) (same_time : Bool) (op : RankOp B) (shelves : List (Shelf B)) → rank_op_on same_time (map_rank_op f op) (map (map_shelf f) shelves) ≡ map (map_shelf f) (rank_op_on same_time op shelves)
+unfolding rank_op_on map_rank_op
+rank_op-map f same_time (InsertAt table places bodies) shelves =
+    map-change_at_other (map_shelf f) (insert_row same_time places bodies) (insert_row same_time places (map f bodies)) (λ s. sym ((shelves_are_blind f same_time s).inserts places bodies)) shelves table
+rank_op-map f same_time (DeleteAt table numbers) shelves =
+    map-change_at_other (map_shelf f) (delete_rows same_time numbers) (delete_rows same_time numbers) (λ s. sym ((shelves_are_blind f same_time s).deletes_each numbers)) shelves table
+
+rank_ops-map : {B C : Type 0} (f : B → C) (same_time : Bool) (ops : List (RankOp B)) (shelves : List (Shelf B)) → rank_ops_on same_time (map (map_rank_op f) ops) (map (map_shelf f) shelves) ≡ map (map_shelf f) (rank_ops_on same_time ops shelves)
+unfolding rank_ops_on
+rank_ops-map f same_time [] shelves = refl
+rank_ops-map f same_time (op ∷ ops) shelves =
+    ap (rank_ops_on same_time (map (map_rank_op f) ops)) (rank_op-map f same_time op shelves) ∙ rank_ops-map f same_time ops (rank_op_on same_time op shelves)
+
+op-map : {B C : Type 0} (f : B → C) (v : C → ℕ) (same_time : Bool) (op : Op B) (stores : List (Store B)) → op_on same_time v (map_op f op) (map (map_store f) stores) ≡ map (map_store f) (op_on same_time (λ (b : B). v (f b)) op stores)
+unfolding op_on map_op
+op-map {B} f v same_time (Insert table cells) stores =
+    map-change_at_other (map_store f) (insert_cells same_time (λ (b : B). v (f b)) cells) (insert_cells same_time v (map f cells)) (λ t. sym ((stores_map f v same_time t).inserts cells)) stores table
+op-map {B} f v same_time (Delete table numbers) stores =
+    map-change_at_other (map_store f) (delete_numbers same_time (λ (b : B). v (f b)) numbers) (delete_numbers same_time v numbers) (λ t. sym ((stores_map f v same_time t).deletes_each numbers)) stores table
+
+ops-map : {B C : Type 0} (f : B → C) (v : C → ℕ) (same_time : Bool) (ops : List (Op B)) (stores : List (Store B)) → ops_on same_time v (map (map_op f) ops) (map (map_store f) stores) ≡ map (map_store f) (ops_on same_time (λ (b : B). v (f b)) ops stores)
+unfolding ops_on
+ops-map f v same_time [] stores = refl
+ops-map {B} f v same_time (op ∷ ops) stores =
+    ap (ops_on same_time v (map (map_op f) ops)) (op-map f v same_time op stores) ∙ ops-map f v same_time ops (op_on same_time (λ (b : B). v (f b)) op stores)
+
+columns_in-map : {B C : Type 0} (f : B → C) (stores : List (Store B)) (table : ℕ) → columns_in (map (map_store f) stores) table ≡ map (map_column f) (columns_in stores table)
+unfolding columns_in map_store
+columns_in-map f [] table = refl
+columns_in-map f (t ∷ stores) zero = refl
+columns_in-map f (t ∷ stores) (suc table) = columns_in-map f stores table
+
+placed_op-map : {B C : Type 0} (f : B → C) (v : C → ℕ) (op : Op B) (stores : List (Store B)) → placed_op v (map_op f op) (map (map_store f) stores) ≡ map_rank_op f (placed_op (λ (b : B). v (f b)) op stores)
+unfolding placed_op map_op map_rank_op
+placed_op-map f v (Insert table cells) stores =
+    ap (λ (places : List Place). InsertAt table places (map f cells))
+    (ap (λ (cs : List (Column _)). places_by v cs (map f cells)) (columns_in-map f stores table) ∙ places_by-map f v (columns_in stores table) cells)
+placed_op-map f v (Delete table numbers) stores = refl
+
+placed_ops-map : {B C : Type 0} (f : B → C) (v : C → ℕ) (same_time : Bool) (ops : List (Op B)) (stores : List (Store B)) → placed_ops same_time v (map (map_op f) ops) (map (map_store f) stores) ≡ map (map_rank_op f) (placed_ops same_time (λ (b : B). v (f b)) ops stores)
+unfolding placed_ops
+placed_ops-map f v same_time [] stores = refl
+placed_ops-map {B} {C} f v same_time (op ∷ ops) stores =
+    ap₂ (λ (first : RankOp C) (rest : List (RankOp C)). first ∷ rest) (placed_op-map f v op stores)
+    (ap (placed_ops same_time v (map (map_op f) ops)) (op-map f v same_time op stores) ∙ placed_ops-map f v same_time ops (op_on same_time (λ (b : B). v (f b)) op stores))
+
+pub operations_are_blind : {B C : Type 0} (f : B → C) (v : C → ℕ) (same_time : Bool) → OpsAreBlind B C f v same_time
+operations_are_blind f v same_time = record { by_rank = rank_ops-map f same_time; by_value = ops-map f v same_time; placed = placed_ops-map f v same_time }
+
+-- ---- tables that differ by balancing alone
+
+-- what a place in the lists of tables shows
+pub record SameIn (B : Type 0) (stores others : List (Store B)) (table : ℕ) : Type 0 where
+  pub many : length stores ≡ length others
+  pub rows : rows_in stores table ≡ rows_in others table
+  pub items : map items_of (columns_in stores table) ≡ map items_of (columns_in others table)
+
+pub same-in : {B : Type 0} (stores others : List (Store B)) (table : ℕ) → AllSame stores others → SameIn B stores others table
+unfolding AllSame rows_in columns_in
+same-in [] [] table same = record { many = refl; rows = refl; items = refl }
+same-in [] (u ∷ others) table same = absurd same
+same-in (t ∷ stores) [] table same = absurd same
+same-in (t ∷ stores) (u ∷ others) zero same = record { many = ap suc (same-in stores others 0 same.1).many; rows = same.0.rows; items = same.0.items }
+same-in (t ∷ stores) (u ∷ others) (suc table) same =
+    let rest = same-in stores others table same.1 in
+    record { many = ap suc rest.many; rows = rest.rows; items = rest.items }
+
+fits-same : {B : Type 0} (limit : ℕ) (op : Op B) (stores others : List (Store B)) → AllSame stores others → FitsTables limit op stores → FitsTables limit op others
+unfolding FitsTables
+fits-same limit (Insert table cells) stores others same fits =
+    let at = same-in stores others table same in
+    let width = sym (length-map (columns_in stores table) items_of) ∙ ap length at.items ∙ length-map (columns_in others table) items_of in
+    record { there = omega (arith, fits.there, at.many); wide = fits.wide ∙ width; room = omega (arith, fits.room, ap length at.rows) }
+fits-same limit (Delete table numbers) stores others same fits = omega (arith, fits, (same-in stores others table same).many)
+
+placed-same : {B : Type 0} (v : B → ℕ) (op : Op B) (stores others : List (Store B)) → AllSame stores others → placed_op v op stores ≡ placed_op v op others
+unfolding placed_op
+placed-same v (Insert table cells) stores others same =
+    ap (λ (places : List Place). InsertAt table places cells) (places_by-same v (columns_in stores table) (columns_in others table) cells (same-in stores others table same).items)
+placed-same v (Delete table numbers) stores others same = refl
+
+changed-same : {B : Type 0} (v : B → ℕ) (same_time : Bool) (limit : ℕ) (f : Store B → Store B) → ((t u : Store B) → Sound B v same_time limit t → Sound B v same_time limit u → Same B t u → Same B (f t) (f u))
+    → (stores others : List (Store B)) (table : ℕ) → AllSound v same_time limit stores → AllSound v same_time limit others → AllSame stores others → AllSame (change_at f stores table) (change_at f others table)
+unfolding AllSame AllSound change_at
+changed-same v same_time limit f each [] [] table sound_t sound_u same = same
+changed-same v same_time limit f each [] (u ∷ others) table sound_t sound_u same = absurd same
+changed-same v same_time limit f each (t ∷ stores) [] table sound_t sound_u same = absurd same
+changed-same v same_time limit f each (t ∷ stores) (u ∷ others) zero sound_t sound_u same = (each t u sound_t.0 sound_u.0 same.0, same.1)
+changed-same v same_time limit f each (t ∷ stores) (u ∷ others) (suc table) sound_t sound_u same = (same.0, changed-same v same_time limit f each stores others table sound_t.1 sound_u.1 same.1)
+
+op-same : {B : Type 0} (v : B → ℕ) (same_time : Bool) (limit : ℕ) (op : Op B) (stores others : List (Store B)) → AllSound v same_time limit stores → AllSound v same_time limit others → AllSame stores others → AllSame (op_on same_time v op stores) (op_on same_time v op others)
+unfolding op_on
+op-same v same_time limit (Insert table cells) stores others sound_t sound_u same =
+    changed-same v same_time limit (insert_cells same_time v cells) (λ t u s_t s_u e. (same_behaves v same_time limit t u s_t s_u e).inserts cells) stores others table sound_t sound_u same
+op-same v same_time limit (Delete table numbers) stores others sound_t sound_u same =
+    changed-same v same_time limit (delete_numbers same_time v numbers) (λ t u s_t s_u e. (same_behaves v same_time limit t u s_t s_u e).deletes_each numbers) stores others table sound_t sound_u same
+
+pub ops_on_same : {B : Type 0} (v : B → ℕ) (same_time : Bool) (limit : ℕ) (ops : List (Op B)) (stores others : List (Store B)) → AllSound v same_time limit stores → AllSound v same_time limit others → AllSame stores others → AllFit same_time v limit ops stores → AllDoSame B v same_time limit ops stores others
+unfolding AllFit placed_ops ops_on
+ops_on_same v same_time limit [] stores others sound_t sound_u same fit = record { fit = tt; placed = refl; same = same }
+ops_on_same {B} v same_time limit (op ∷ ops) stores others sound_t sound_u same fit =
+    let fits_u = fits-same limit op stores others same fit.0 in
+    let rest = ops_on_same v same_time limit ops (op_on same_time v op stores) (op_on same_time v op others)
+    (op-sound v same_time limit op stores sound_t fit.0) (op-sound v same_time limit op others sound_u fits_u) (op-same v same_time limit op stores others sound_t sound_u same) fit.1 in
+    record {
+      fit = (fits_u, rest.fit);
+      placed = ap₂ (λ (first : RankOp B) (more : List (RankOp B)). first ∷ more) (placed-same v op stores others same) rest.placed;
+      same = rest.same;
+    }

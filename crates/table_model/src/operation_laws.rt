@@ -1,0 +1,18 @@
+//! Laws of the operations on several tables. Each function is empty: its contract is the law.
+ghost use Rattle.table_model.specs.OperationLaws.{OperationsAreBlind, OpsAreByRank, OpsOnSame};
+
+/// Operations by value that fit leave sound tables sound, and are on their tables by rank the operations by rank, each value
+/// at its place as the operations before it leave the tables.
+pub fn ops_are_by_rank<B>()
+    ensures { OpsAreByRank B }
+{}
+
+/// Operations do to tables of other bodies what they do to these: by rank of any, by value where the others tell the values.
+pub fn operations_are_blind<B, C>()
+    ensures { OperationsAreBlind B C }
+{}
+
+/// On tables that differ by the balance of their trees alone operations fit, place and do the same.
+pub fn ops_on_same<B>()
+    ensures { OpsOnSame B }
+{}

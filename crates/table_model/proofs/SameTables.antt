@@ -92,7 +92,7 @@ insert-same {B} v same_time limit t u sound_t sound_u same cells =
       rows = ap₂ (λ (rows : List (Row B)) (next : ℕ). let r : Row B = record { number = next; cells = cells } in rows ++ r ∷ []) same.rows same.next;
       next = ap suc same.next;
       items = operate-same same_time (adds (places_by v t.columns cells) cells) t.columns u.columns (suits-all v same_time limit t sound_t) (suits-all v same_time limit u sound_u) same.items
-      ∙ ap (λ (places : List Place). map items_of (operate same_time (adds places cells) u.columns)) (places_by-same v t.columns u.columns cells same.items);
+          ∙ ap (λ (places : List Place). map items_of (operate same_time (adds places cells) u.columns)) (places_by-same v t.columns u.columns cells same.items);
     }
 
 pub delete-same : {B : Type 0} (v : B → ℕ) (same_time : Bool) (limit : ℕ) (t u : Store B) → Sound B v same_time limit t → Sound B v same_time limit u → Same B t u → (number : ℕ) → Same B (delete_number same_time v number t) (delete_number same_time v number u)
@@ -103,8 +103,8 @@ delete-same {B} v same_time limit t u sound_t sound_u same number =
       rows = ap (rows_without number) same.rows;
       next = same.next;
       items = operate-same same_time (drops (ranks_by v t.columns gone)) t.columns u.columns (suits-all v same_time limit t sound_t) (suits-all v same_time limit u sound_u) same.items
-      ∙ ap (λ (ranks : List ℕ). map items_of (operate same_time (drops ranks) u.columns))
-      (ranks_by-same v t.columns u.columns gone same.items ∙ ap (λ (rows : List (Row B)). ranks_by v u.columns (cells_of number rows)) same.rows);
+          ∙ ap (λ (ranks : List ℕ). map items_of (operate same_time (drops ranks) u.columns))
+          (ranks_by-same v t.columns u.columns gone same.items ∙ ap (λ (rows : List (Row B)). ranks_by v u.columns (cells_of number rows)) same.rows);
     }
 
 deletes-same : {B : Type 0} (v : B → ℕ) (same_time : Bool) (limit : ℕ) (t u : Store B) → Sound B v same_time limit t → Sound B v same_time limit u → Same B t u → (numbers : List ℕ) → Same B (delete_numbers same_time v numbers t) (delete_numbers same_time v numbers u)

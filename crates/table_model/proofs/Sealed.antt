@@ -28,23 +28,23 @@ operations_keep_standing seal v same_time limit table t stands =
     let blind = shelves_are_blind seal same_time (shelf_of v t) in
     record {
       inserts = λ cells wide room. record {
-          same = ap (insert_row same_time (places_by v t.columns cells) (map seal cells)) stands.same
-          ∙ blind.inserts (places_by v t.columns cells) cells
-          ∙ ap (map_shelf seal) (sym (shelf_of-insert v same_time limit t s cells));
-          sound = insert-sound v same_time limit t s cells wide room;
-        };
+        same = ap (insert_row same_time (places_by v t.columns cells) (map seal cells)) stands.same
+            ∙ blind.inserts (places_by v t.columns cells) cells
+            ∙ ap (map_shelf seal) (sym (shelf_of-insert v same_time limit t s cells));
+        sound = insert-sound v same_time limit t s cells wide room;
+      };
       deletes = λ number. record {
-          same = ap (delete_row same_time number) stands.same ∙ blind.deletes number ∙ ap (map_shelf seal) (sym (shelf_of-delete v same_time limit t s number));
-          sound = delete-sound v same_time limit t s number;
-        };
+        same = ap (delete_row same_time number) stands.same ∙ blind.deletes number ∙ ap (map_shelf seal) (sym (shelf_of-delete v same_time limit t s number));
+        sound = delete-sound v same_time limit t s number;
+      };
       deletes_each = λ numbers. record {
-          same = ap (delete_rows same_time numbers) stands.same ∙ blind.deletes_each numbers ∙ ap (map_shelf seal) (sym (shelf_of-deletes v same_time limit t s numbers));
-          sound = deletes-sound v same_time limit t s numbers;
-        };
+        same = ap (delete_rows same_time numbers) stands.same ∙ blind.deletes_each numbers ∙ ap (map_shelf seal) (sym (shelf_of-deletes v same_time limit t s numbers));
+        sound = deletes-sound v same_time limit t s numbers;
+      };
       lays = λ column. record {
-          same = ap (lay_column same_time column) stands.same ∙ blind.lays column ∙ ap (map_shelf seal) (sym (shelf_of-lay v same_time limit t s column));
-          sound = lay-sound v same_time limit t s column;
-        };
+        same = ap (lay_column same_time column) stands.same ∙ blind.lays column ∙ ap (map_shelf seal) (sym (shelf_of-lay v same_time limit t s column));
+        sound = lay-sound v same_time limit t s column;
+      };
     }
 
 columns-empty : {B C : Type 0} (f : C → B) (n : ℕ) → map (map_column f) (replicate n (empty_column C)) ≡ replicate n (empty_column B)

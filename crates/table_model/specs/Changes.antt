@@ -38,10 +38,10 @@ rows_without {B} number rows = without (λ (row : Row B). row.number) number row
 -- the other rows follow their items; the new row has the number `next` and stands last, at the ranks of its places
 unfoldable pub with_row : {B : Type 0} → List ℕ → List B → Shelf B → Shelf B
 with_row ranks bodies s = record {
-    kept = s.kept ++ (record { number = s.next; bodies = bodies; ranks = ranks }) ∷ [];
-    next = suc s.next;
-    columns = s.columns;
-  }
+  kept = s.kept ++ (record { number = s.next; bodies = bodies; ranks = ranks }) ∷ [];
+  next = suc s.next;
+  columns = s.columns;
+}
 
 unfoldable pub insert_row : {B : Type 0} → Bool → List Place → List B → Shelf B → Shelf B
 insert_row same_time places bodies s = with_row (map rank_in places) bodies (operated same_time (adds places bodies) s)
@@ -73,18 +73,18 @@ lay_column same_time column s = operated same_time (only column (Lay ∷ [])) s
 -- the new row has the number `next`; in each column one row more at the place of the cell's value
 unfoldable pub insert_cells : {B : Type 0} → Bool → (B → ℕ) → List B → Store B → Store B
 insert_cells same_time v cells t = record {
-    rows = t.rows ++ (record { number = t.next; cells = cells }) ∷ [];
-    next = suc t.next;
-    columns = operate same_time (adds (places_by v t.columns cells) cells) t.columns;
-  }
+  rows = t.rows ++ (record { number = t.next; cells = cells }) ∷ [];
+  next = suc t.next;
+  columns = operate same_time (adds (places_by v t.columns cells) cells) t.columns;
+}
 
 -- the row taken out; in each column one row fewer at the rank of its cell's value
 unfoldable pub delete_number : {B : Type 0} → Bool → (B → ℕ) → ℕ → Store B → Store B
 delete_number same_time v number t = record {
-    rows = rows_without number t.rows;
-    next = t.next;
-    columns = operate same_time (drops (ranks_by v t.columns (cells_of number t.rows))) t.columns;
-  }
+  rows = rows_without number t.rows;
+  next = t.next;
+  columns = operate same_time (drops (ranks_by v t.columns (cells_of number t.rows))) t.columns;
+}
 
 -- one row after the other
 unfoldable pub delete_numbers : {B : Type 0} → Bool → (B → ℕ) → List ℕ → Store B → Store B

@@ -28,10 +28,10 @@ kept_after same_time steps cs row = record { number = row.number; bodies = row.b
 -- the table after operations that leave each row its items
 unfoldable pub operated : {B : Type 0} → Bool → List (List (Operation B)) → Shelf B → Shelf B
 operated same_time steps s = record {
-    kept = map (kept_after same_time steps s.columns) s.kept;
-    next = s.next;
-    columns = operate same_time steps s.columns;
-  }
+  kept = map (kept_after same_time steps s.columns) s.kept;
+  next = s.next;
+  columns = operate same_time steps s.columns;
+}
 
 -- first these operations on each column, then those
 unfoldable pub then_steps : {B : Type 0} → List (List (Operation B)) → List (List (Operation B)) → List (List (Operation B))

@@ -2,7 +2,7 @@
 #![tactic(auto)]
 
 pub mod examples;
-pub mod shelf_laws;
-pub mod store_laws;
-pub mod standing_laws;
 pub mod operation_laws;
+pub mod shelf_laws;
+pub mod standing_laws;
+pub mod store_laws;

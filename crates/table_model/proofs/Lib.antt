@@ -11,3 +11,4 @@ pub mod SoundMaps
 pub mod SameTables
 pub mod Sealed
 pub mod Ops
+pub mod ByColumns

@@ -67,7 +67,7 @@ ops_are_by_rank v same_time limit (op ∷ ops) stores sound fit =
 
 -- ---- nothing looks at bodies
 
-rank_op-map : {B C : Type 0} (f : B → C) (same_time : Bool) (op : RankOp B) (shelves : List (Shelf B)) → rank_op_on same_time (map_rank_op f op) (map (map_shelf f) shelves) ≡ map (map_shelf f) (rank_op_on same_time op shelves)
+pub rank_op-map : {B C : Type 0} (f : B → C) (same_time : Bool) (op : RankOp B) (shelves : List (Shelf B)) → rank_op_on same_time (map_rank_op f op) (map (map_shelf f) shelves) ≡ map (map_shelf f) (rank_op_on same_time op shelves)
 unfolding rank_op_on map_rank_op
 rank_op-map f same_time (InsertAt table places bodies) shelves =
     map-change_at_other (map_shelf f) (insert_row same_time places bodies) (insert_row same_time places (map f bodies)) (λ s. sym ((shelves_are_blind f same_time s).inserts places bodies)) shelves table

@@ -1,5 +1,5 @@
 -- Sound tables: what they give, and that each operation leaves them sound.
-use Rattle.std.proofs.Common.{◌≡◌, ℕ, suc, zero, ◌+◌, ◌*◌, ◌/◌, ◌<◌, ◌≤◌, Bool, true, false, List, [], ◌∷◌, ◌++◌, length, map, get_or, replicate, refl, ap, ap₂, ◌∙◌, sym, subst, inl, inr, arith}
+use Rattle.std.proofs.Common.{◌≡◌, ℕ, suc, zero, ◌+◌, ◌*◌, ◌/◌, ◌^◌, ◌<◌, ◌≤◌, Bool, true, false, List, [], ◌∷◌, ◌++◌, length, map, get_or, replicate, refl, ap, ap₂, ◌∙◌, sym, subst, inl, inr, arith}
 use Rattle.std.proofs.lemmas.Bool.{cases_Bool}
 use Rattle.std.proofs.lemmas.List.{length-map, map-append, length-append}
 use Rattle.tree_model.specs.declared.Place.TheVariants.{Found}
@@ -11,14 +11,14 @@ use Rattle.tree_model.specs.Columns.{Column, empty_column, items_of, Operation, 
 use Rattle.tree_model.specs.ColumnLaws.{IsKept, SuitsMode}
 use Rattle.tree_model.specs.Tallies.{tally, Tallied, IsOneMore, counts, TalliedItems}
 use Rattle.tree_model.proofs.Ordered.{held_at-below, holds-at}
-use Rattle.tree_model.proofs.Kept.{IsKept-empty, IsKept-within}
+use Rattle.tree_model.proofs.Kept.{IsKept-empty, IsKept-within, IsKept-short}
 use Rattle.tree_model.proofs.Suits.{SuitsMode-empty}
 use Rattle.tree_model.proofs.TalliedRows.{tally-last}
 use Rattle.tree_model.proofs.TalliedItems.{most_within_rows}
 use Rattle.table_model.specs.Stores.{Row, Store, empty_store, ranks_by}
 use Rattle.table_model.specs.Steps.{operate, adds, drops, only, places_by}
 use Rattle.table_model.specs.Changes.{cells_of, rows_without, insert_cells, delete_number, delete_numbers, lay_store}
-use Rattle.table_model.specs.Soundness.{numbers_of, value_at, values_at, column_at, AllWide, SoundColumn, Sound, FitsRows, OwnItem}
+use Rattle.table_model.specs.Soundness.{numbers_of, value_at, values_at, column_at, AllWide, SoundColumn, Sound, IsLow, FitsRows, OwnItem}
 use Rattle.table_model.specs.StoreLaws.{StaysSound}
 use Rattle.table_model.proofs.Following.{keys, Owned, owned-within, length-keys}
 use Rattle.table_model.proofs.Numbers.{without-none, beside-none, one_without, held-new, wide-without, wide-cells, wide-last, length-without, numbered-without, rising-last}
@@ -195,8 +195,9 @@ sound_fits_rows v same_time limit t column sound h =
     record {
       items = s.kept.fits;
       most = half_more limit c.most twice;
-      many = λ h. IsKept-within c 98304 28 s.kept (omega (arith, twice, h)) (omega arith) (omega arith) (omega arith);
-      more = λ h. IsKept-within c 1572864 35 s.kept (omega (arith, twice, h)) (omega arith) (omega arith) (omega arith);
+      many = λ h. record { most = omega (arith, twice, h); ways = IsKept-within c 98304 28 s.kept (omega (arith, twice, h)) (omega arith) (omega arith) (omega arith) };
+      more = λ h. record { most = omega (arith, twice, h); ways = IsKept-within c 1572864 35 s.kept (omega (arith, twice, h)) (omega arith) (omega arith) (omega arith) };
+      any = λ h. IsKept-short c s.kept (omega (arith, twice, h));
     }
 
 pub rows_own_items : {B : Type 0} (v : B → ℕ) (same_time : Bool) (limit : ℕ) (t : Store B) (column row d : ℕ) → Sound B v same_time limit t → column < length t.columns → row < length t.rows → OwnItem B v (column_at t.columns column) (get_or (values_at v column t.rows) row 0) d

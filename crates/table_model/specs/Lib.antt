@@ -9,3 +9,4 @@ pub mod ShelfLaws
 pub mod StoreLaws
 pub mod OperationLaws
 pub mod StandingLaws
+pub mod StepLaws

@@ -1,11 +1,11 @@
 -- The operations of transactions on several tables: by value on stores, by rank on shelves.
-use Rattle.std.specs.Prelude.{◌≡◌, ℕ, ◌<◌, Bool, List, [], ◌∷◌, length, map, get_or}
+use Rattle.std.specs.Prelude.{◌≡◌, ℕ, ◌<◌, Bool, true, false, ◌==◌, List, [], ◌∷◌, length, map, get_or}
 use Rattle.tree_model.specs.declared.Place.{Place}
 use Rattle.tree_model.specs.Items.{change_at}
-use Rattle.tree_model.specs.Columns.{Column}
-use Rattle.table_model.specs.Stores.{Row, Store, Shelf}
-use Rattle.table_model.specs.Steps.{places_by}
-use Rattle.table_model.specs.Changes.{insert_row, delete_rows, insert_cells, delete_numbers}
+use Rattle.tree_model.specs.Columns.{Column, Operation}
+use Rattle.table_model.specs.Stores.{Row, Store, Shelf, empty_shelf}
+use Rattle.table_model.specs.Steps.{adds, places_by, then_steps, all_steps}
+use Rattle.table_model.specs.Changes.{insert_row, delete_rows, delete_steps, insert_cells, delete_numbers}
 use Rattle.table_model.specs.Soundness.{Sound, Same}
 
 -- by value: a row of cells into a table, or the rows of these numbers out of it
@@ -34,6 +34,25 @@ rank_op_on same_time (DeleteAt table numbers) shelves = change_at (delete_rows s
 unfoldable pub rank_ops_on : {B : Type 0} → Bool → List (RankOp B) → List (Shelf B) → List (Shelf B)
 rank_ops_on same_time [] shelves = shelves
 rank_ops_on same_time (op ∷ ops) shelves = rank_ops_on same_time ops (rank_op_on same_time op shelves)
+
+-- ---- what they do to each column of a table
+
+unfoldable pub shelf_at : {B : Type 0} → List (Shelf B) → ℕ → Shelf B
+shelf_at {B} shelves table = get_or shelves table (empty_shelf B 0)
+
+unfoldable pub steps_if : {B : Type 0} → Bool → List (List (Operation B)) → List (List (Operation B))
+steps_if true steps = steps
+steps_if false steps = []
+
+-- one operation, where it is on this table
+unfoldable pub op_steps : {B : Type 0} → Bool → ℕ → RankOp B → List (Shelf B) → List (List (Operation B))
+op_steps same_time table (InsertAt t places bodies) shelves = steps_if (t == table) (adds places bodies)
+op_steps same_time table (DeleteAt t numbers) shelves = steps_if (t == table) (all_steps (delete_steps same_time numbers (shelf_at shelves table)))
+
+-- all of them that are on this table, one after the other
+unfoldable pub ops_steps : {B : Type 0} → Bool → ℕ → List (RankOp B) → List (Shelf B) → List (List (Operation B))
+ops_steps same_time table [] shelves = []
+ops_steps same_time table (op ∷ ops) shelves = then_steps (op_steps same_time table op shelves) (ops_steps same_time table ops (rank_op_on same_time op shelves))
 
 -- ---- places of values
 

@@ -1,5 +1,5 @@
 -- What the tables of a program that keeps its rules always are, and when two of them differ by the balance of their trees alone.
-use Rattle.std.specs.Prelude.{◌≡◌, ℕ, ◌+◌, ◌/◌, ◌<◌, ◌≤◌, Bool, List, [], ◌∷◌, ◌++◌, length, map, get_or}
+use Rattle.std.specs.Prelude.{◌≡◌, ℕ, ◌+◌, ◌/◌, ◌^◌, ◌<◌, ◌≤◌, Bool, List, [], ◌∷◌, ◌++◌, length, map, get_or}
 use Rattle.tree_model.specs.declared.Place.TheVariants.{Found}
 use Rattle.tree_model.specs.Trees.{size, height}
 use Rattle.tree_model.specs.Places.{place, below, IsIncreasing}
@@ -43,12 +43,18 @@ pub record Sound (B : Type 0) (v : B → ℕ) (same_time : Bool) (limit : ℕ) (
   pub wide : AllWide (length t.columns) t.rows
   pub columns : (column : ℕ) → column < length t.columns → SoundColumn B v same_time (column_at t.columns column) (values_at v column t.rows)
 
--- what a limit of rows gives for a column: at most half as many items again, and trees so low that each way has at most 29 steps, or 36
+-- a column never had more items than this, and each way in its tree has at most so many steps
+pub record IsLow (B : Type 0) (c : Column B) (items steps : ℕ) : Type 0 where
+  pub most : c.most ≤ items
+  pub ways : height c.tree ≤ steps
+
+-- what a limit of rows gives for a column: at most half as many items again, and a low tree
 pub record FitsRows (B : Type 0) (limit : ℕ) (c : Column B) : Type 0 where
   pub items : size c.tree ≤ c.most
   pub most : c.most ≤ limit + limit / 2
-  pub many : limit ≤ 65536 → height c.tree ≤ 29
-  pub more : limit ≤ 1048576 → height c.tree ≤ 36
+  pub many : limit ≤ 65536 → IsLow B c 98304 29
+  pub more : limit ≤ 1048576 → IsLow B c 1572864 36
+  pub any : limit ≤ 2 ^ 31 → height c.tree ≤ 63
 
 -- the item of a row in a column, for a value x of the row: it stands at the rank of x, and reads as x
 pub record OwnItem (B : Type 0) (v : B → ℕ) (c : Column B) (x d : ℕ) : Type 0 where

@@ -39,6 +39,11 @@ then_steps [] later = later
 then_steps (operations ∷ more) [] = operations ∷ more
 then_steps (operations ∷ more) (next ∷ later) = (operations ++ next) ∷ then_steps more later
 
+-- several such lists one after the other
+unfoldable pub all_steps : {B : Type 0} → List (List (List (Operation B))) → List (List (Operation B))
+all_steps [] = []
+all_steps (steps ∷ more) = then_steps steps (all_steps more)
+
 -- ---- what INSERT, DELETE and an install do to each column
 
 -- one row more: in each column one more at the place of its body

@@ -6,3 +6,4 @@ pub mod operation_laws;
 pub mod shelf_laws;
 pub mod standing_laws;
 pub mod store_laws;
+pub mod step_laws;

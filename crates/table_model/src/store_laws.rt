@@ -12,7 +12,7 @@ pub fn operations_keep_sound<B>()
 {}
 
 /// A column of a sound table has at most half as many items again as the limit has rows: 98,304 for 65,536 rows, and
-/// 1,572,864 for 1,048,576. Its ways have at most 29 steps, or 36.
+/// 1,572,864 for 1,048,576. Its ways have at most 29 steps, or 36, and for up to 2^31 rows at most 63.
 pub fn sound_fits_rows<B>()
     ensures { SoundFitsRows B }
 {}

@@ -12,7 +12,7 @@ use Rattle.table_model.specs.Changes.{with_row, insert_row, without_row, delete_
 use Rattle.table_model.specs.Operations.{RankOp, InsertAt, DeleteAt, rank_op_on, rank_ops_on, map_rank_op, shelf_at, steps_if, op_steps, ops_steps}
 use Rattle.table_model.specs.StepLaws.{ColumnsAfter}
 use Rattle.table_model.proofs.Maps.{adds-map, shelves_are_blind}
-use Rattle.table_model.proofs.Ops.{rank_op-map}
+use Rattle.table_model.proofs.Ops.{rank_op-map, shelf_at-map}
 
 pub steps_compose : {B : Type 0} (same_time : Bool) (earlier later : List (List (Operation B))) (cs : List (Column B)) → operate same_time (then_steps earlier later) cs ≡ operate same_time later (operate same_time earlier cs)
 unfolding operate then_steps
@@ -123,12 +123,6 @@ steps_if-map : {B C : Type 0} (f : B → C) (b : Bool) (steps : List (List (Oper
 unfolding steps_if map_steps
 steps_if-map f true steps = refl
 steps_if-map f false steps = refl
-
-shelf_at-map : {B C : Type 0} (f : B → C) (shelves : List (Shelf B)) (table : ℕ) → shelf_at (map (map_shelf f) shelves) table ≡ map_shelf f (shelf_at shelves table)
-unfolding shelf_at empty_shelf map_shelf
-shelf_at-map f [] table = refl
-shelf_at-map f (s ∷ shelves) zero = refl
-shelf_at-map f (s ∷ shelves) (suc table) = shelf_at-map f shelves table
 
 op_steps-map : {B C : Type 0} (f : B → C) (same_time : Bool) (table : ℕ) (op : RankOp B) (shelves : List (Shelf B)) → op_steps same_time table (map_rank_op f op) (map (map_shelf f) shelves) ≡ map_steps f (op_steps same_time table op shelves)
 unfolding op_steps map_rank_op

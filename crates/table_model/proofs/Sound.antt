@@ -1,9 +1,9 @@
 -- Sound tables: what they give, and that each operation leaves them sound.
-use Rattle.std.proofs.Common.{◌≡◌, ℕ, suc, zero, ◌+◌, ◌*◌, ◌/◌, ◌^◌, ◌<◌, ◌≤◌, Bool, true, false, List, [], ◌∷◌, ◌++◌, length, map, get_or, replicate, refl, ap, ap₂, ◌∙◌, sym, subst, inl, inr, arith}
+use Rattle.std.proofs.Common.{◌≡◌, ℕ, suc, zero, ◌+◌, ◌*◌, ◌/◌, ◌^◌, ◌<◌, ◌≤◌, Bool, true, false, List, [], ◌∷◌, ◌++◌, length, map, get_or, replicate, refl, ap, ap₂, ◌∙◌, sym, subst, inl, inr, arith, eqb}
 use Rattle.std.proofs.lemmas.Bool.{cases_Bool}
 use Rattle.std.proofs.lemmas.List.{length-map, map-append, length-append}
 use Rattle.tree_model.specs.declared.Place.TheVariants.{Found}
-use Rattle.tree_model.specs.Places.{below, holds, placed, place, IsBelowAll, IsIncreasing}
+use Rattle.tree_model.specs.Places.{one_if, below, holds, placed, place, IsBelowAll, IsIncreasing}
 use Rattle.tree_model.specs.Items.{values}
 use Rattle.tree_model.proofs.CarriedRanks.{false_is_true}
 use Rattle.tree_model.specs.Trees.{inorder, size, height}
@@ -178,6 +178,25 @@ pub length_values : {B : Type 0} (v : B → ℕ) (column : ℕ) (rows : List (Ro
 unfolding values_at
 length_values v column rows = length-map rows (value_at v column)
 
+one_if_within : (b : Bool) (n : ℕ) → one_if b n ≤ suc n
+unfolding one_if
+one_if_within true n = omega arith
+one_if_within false n = omega arith
+
+tally_within : (rows : List ℕ) (key : ℕ) → tally rows key ≤ length rows
+unfolding tally
+tally_within [] key = omega arith
+tally_within (row ∷ rows) key = omega (arith, tally_within rows key, one_if_within (eqb row key) (tally rows key))
+
+get_or-within : (xs : List ℕ) (f : ℕ → ℕ) (rank n : ℕ) → ((x : ℕ) → f x ≤ n) → get_or (map f xs) rank 0 ≤ n
+get_or-within [] f rank n all = omega arith
+get_or-within (x ∷ xs) f zero n all = all x
+get_or-within (x ∷ xs) f (suc rank) n all = get_or-within xs f rank n all
+
+counted_within : {B : Type 0} (v : B → ℕ) (c : Column B) (rows : List ℕ) → TalliedItems v (items_of c) rows → (rank : ℕ) → get_or (counts (items_of c)) rank 0 ≤ length rows
+counted_within v c rows tallied rank =
+    subst (λ (ns : List ℕ). get_or ns rank 0 ≤ length rows) (sym tallied.counted) (get_or-within (keys v c) (tally rows) rank (length rows) (tally_within rows))
+
 half_more : (limit most : ℕ) → 2 * most ≤ 3 * limit → most ≤ limit + limit / 2
 half_more limit most h = omega (arith, h)
 
@@ -195,6 +214,7 @@ sound_fits_rows v same_time limit t column sound h =
     record {
       items = s.kept.fits;
       most = half_more limit c.most twice;
+      counted = λ rank. omega (arith, counted_within v c rows s.tallied rank, length_values v column t.rows, sound.few);
       many = λ h. record { most = omega (arith, twice, h); ways = IsKept-within c 98304 28 s.kept (omega (arith, twice, h)) (omega arith) (omega arith) (omega arith) };
       more = λ h. record { most = omega (arith, twice, h); ways = IsKept-within c 1572864 35 s.kept (omega (arith, twice, h)) (omega arith) (omega arith) (omega arith) };
       any = λ h. IsKept-short c s.kept (omega (arith, twice, h));

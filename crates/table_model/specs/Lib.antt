@@ -3,6 +3,7 @@ pub mod Steps
 pub mod Changes
 pub mod Soundness
 pub mod Operations
+pub mod Fitting
 pub mod Standing
 pub mod Examples
 pub mod ShelfLaws

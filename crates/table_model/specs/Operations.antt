@@ -1,11 +1,11 @@
 -- The operations of transactions on several tables: by value on stores, by rank on shelves.
-use Rattle.std.specs.Prelude.{◌≡◌, ℕ, ◌<◌, Bool, true, false, ◌==◌, List, [], ◌∷◌, length, map, get_or}
+use Rattle.std.specs.Prelude.{ℕ, Bool, true, false, ◌==◌, List, [], ◌∷◌, map, get_or}
 use Rattle.tree_model.specs.declared.Place.{Place}
 use Rattle.tree_model.specs.Items.{change_at}
 use Rattle.tree_model.specs.Columns.{Column, Operation}
 use Rattle.table_model.specs.Stores.{Row, Store, Shelf, empty_shelf}
 use Rattle.table_model.specs.Steps.{adds, places_by, then_steps, all_steps}
-use Rattle.table_model.specs.Changes.{insert_row, delete_rows, delete_steps, insert_cells, delete_numbers}
+use Rattle.table_model.specs.Changes.{insert_row, delete_rows, delete_steps, lay_column, insert_cells, delete_numbers, lay_store}
 use Rattle.table_model.specs.Soundness.{Sound, Same}
 
 -- by value: a row of cells into a table, or the rows of these numbers out of it
@@ -34,6 +34,15 @@ rank_op_on same_time (DeleteAt table numbers) shelves = change_at (delete_rows s
 unfoldable pub rank_ops_on : {B : Type 0} → Bool → List (RankOp B) → List (Shelf B) → List (Shelf B)
 rank_ops_on same_time [] shelves = shelves
 rank_ops_on same_time (op ∷ ops) shelves = rank_ops_on same_time ops (rank_op_on same_time op shelves)
+
+-- ---- installs
+
+-- the tree of one column of one table becomes balanced
+unfoldable pub install_on : {B : Type 0} → Bool → ℕ → ℕ → List (Store B) → List (Store B)
+install_on same_time table column stores = change_at (lay_store same_time column) stores table
+
+unfoldable pub rank_install_on : {B : Type 0} → Bool → ℕ → ℕ → List (Shelf B) → List (Shelf B)
+rank_install_on same_time table column shelves = change_at (lay_column same_time column) shelves table
 
 -- ---- what they do to each column of a table
 
@@ -83,23 +92,6 @@ map_op f (Delete table numbers) = Delete table numbers
 unfoldable pub map_rank_op : {B C : Type 0} → (B → C) → RankOp B → RankOp C
 map_rank_op f (InsertAt table places bodies) = InsertAt table places (map f bodies)
 map_rank_op f (DeleteAt table numbers) = DeleteAt table numbers
-
--- ---- operations that fit
-
--- an INSERT's table is there, has as many columns as there are cells, and fewer rows than the limit
-pub record FitsInsert (B : Type 0) (limit table : ℕ) (cells : List B) (stores : List (Store B)) : Type 0 where
-  pub there : table < length stores
-  pub wide : length cells ≡ length (columns_in stores table)
-  pub room : length (rows_in stores table) < limit
-
-unfoldable pub FitsTables : {B : Type 0} → ℕ → Op B → List (Store B) → Type 0
-FitsTables {B} limit (Insert table cells) stores = FitsInsert B limit table cells stores
-FitsTables limit (Delete table numbers) stores = table < length stores
-
--- each fits the tables as those before it leave them
-unfoldable pub AllFit : {B : Type 0} → Bool → (B → ℕ) → ℕ → List (Op B) → List (Store B) → Type 0
-AllFit same_time v limit [] stores = Unit {0}
-AllFit same_time v limit (op ∷ ops) stores = FitsTables limit op stores × AllFit same_time v limit ops (op_on same_time v op stores)
 
 -- ---- sound tables, and tables that differ by balancing alone
 

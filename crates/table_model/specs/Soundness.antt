@@ -6,11 +6,14 @@ use Rattle.tree_model.specs.Places.{place, below, IsIncreasing}
 use Rattle.tree_model.specs.Items.{Item, values}
 use Rattle.tree_model.specs.Columns.{Column, empty_column, items_of}
 use Rattle.tree_model.specs.ColumnLaws.{IsKept, SuitsMode}
-use Rattle.tree_model.specs.Tallies.{TalliedItems}
-use Rattle.table_model.specs.Stores.{Row, Store}
+use Rattle.tree_model.specs.Tallies.{counts, TalliedItems}
+use Rattle.table_model.specs.Stores.{Row, Store, Kept}
 
 unfoldable pub numbers_of : {B : Type 0} → List (Row B) → List ℕ
 numbers_of rows = map (λ row. row.number) rows
+
+unfoldable pub kept_numbers : {B : Type 0} → List (Kept B) → List ℕ
+kept_numbers kept = map (λ row. row.number) kept
 
 -- the value of a row in a column, and 0 where the row has no such cell
 unfoldable pub value_at : {B : Type 0} → (B → ℕ) → ℕ → Row B → ℕ
@@ -48,10 +51,11 @@ pub record IsLow (B : Type 0) (c : Column B) (items steps : ℕ) : Type 0 where
   pub most : c.most ≤ items
   pub ways : height c.tree ≤ steps
 
--- what a limit of rows gives for a column: at most half as many items again, and a low tree
+-- what a limit of rows gives for a column: at most half as many items again, no item with more rows, and a low tree
 pub record FitsRows (B : Type 0) (limit : ℕ) (c : Column B) : Type 0 where
   pub items : size c.tree ≤ c.most
   pub most : c.most ≤ limit + limit / 2
+  pub counted : (rank : ℕ) → get_or (counts (items_of c)) rank 0 ≤ limit
   pub many : limit ≤ 65536 → IsLow B c 98304 29
   pub more : limit ≤ 1048576 → IsLow B c 1572864 36
   pub any : limit ≤ 2 ^ 31 → height c.tree ≤ 63

@@ -12,3 +12,4 @@ pub mod SameTables
 pub mod Sealed
 pub mod Ops
 pub mod ByColumns
+pub mod SealedTables

@@ -6,7 +6,9 @@ use Rattle.table_model.specs.Stores.{Store, Kept, Shelf, empty_store, empty_shel
 use Rattle.table_model.specs.Steps.{places_by}
 use Rattle.table_model.specs.Changes.{insert_row, delete_row, delete_rows, lay_column, insert_cells, delete_number, delete_numbers, lay_store}
 use Rattle.table_model.specs.Soundness.{column_at}
-use Rattle.table_model.specs.Standing.{Stands}
+use Rattle.table_model.specs.Operations.{Op, RankOp, ops_on, rank_ops_on, install_on, rank_install_on, placed_ops, map_rank_op, AllSound, AllSame}
+use Rattle.table_model.specs.Fitting.{AllFit, AllFitAt}
+use Rattle.table_model.specs.Standing.{Stands, AllStand}
 
 abbrev pub EmptyStands : Type 0 → Type 0 → Type 0
 EmptyStands B C = (seal : C → B) (v : C → ℕ) (same_time : Bool) (limit columns : ℕ) → Stands B C seal v same_time limit (empty_shelf B columns) (empty_store C columns)
@@ -33,3 +35,18 @@ ranks_at column kept = map (λ row. get_or row.ranks column 0) kept
 abbrev pub BodiesReadAsItems : Type 0 → Type 0 → Type 0
 BodiesReadAsItems B C = (seal : C → B) (v : C → ℕ) (same_time : Bool) (limit : ℕ) (table : Shelf B) (t : Store C) (u : B → ℕ) (column : ℕ) → Stands B C seal v same_time limit table t → ((c : C) → u (seal c) ≡ v c) → column < length table.columns
     → readings_at u column table.kept ≡ map (λ rank. get_or (values u (items_of (column_at table.columns column))) rank 0) (ranks_at column table.kept)
+
+-- ---- several tables
+
+-- operations, placed by tables of which the present ones differ by balancing alone and sealed, fit the shelves, which stand afterwards for
+-- the stores after the operations by value
+pub record OpsStand (B C : Type 0) (seal : C → B) (v : C → ℕ) (same_time : Bool) (limit : ℕ) (ops : List (Op C)) (placed : List (RankOp B)) (shelves : List (Shelf B)) (stores : List (Store C)) : Type 0 where
+  pub fit : AllFitAt same_time limit placed shelves
+  pub stand : AllStand B C seal v same_time limit (rank_ops_on same_time placed shelves) (ops_on same_time v ops stores)
+
+abbrev pub OperationsStand : Type 0 → Type 0 → Type 0
+OperationsStand B C = (seal : C → B) (v : C → ℕ) (same_time : Bool) (limit : ℕ) (ops : List (Op C)) (base stores : List (Store C)) (shelves : List (Shelf B)) → AllStand B C seal v same_time limit shelves stores → AllSound v same_time limit base → AllSame base stores → AllFit same_time v limit ops base
+    → OpsStand B C seal v same_time limit ops (map (map_rank_op seal) (placed_ops same_time v ops base)) shelves stores
+
+abbrev pub InstallStands : Type 0 → Type 0 → Type 0
+InstallStands B C = (seal : C → B) (v : C → ℕ) (same_time : Bool) (limit table column : ℕ) (stores : List (Store C)) (shelves : List (Shelf B)) → AllStand B C seal v same_time limit shelves stores → AllStand B C seal v same_time limit (rank_install_on same_time table column shelves) (install_on same_time table column stores)

@@ -13,3 +13,4 @@ pub mod Sealed
 pub mod Ops
 pub mod ByColumns
 pub mod SealedTables
+pub mod WholeMaps

@@ -10,9 +10,9 @@ use Rattle.tree_model.proofs.Ordered.{held_at-below, holds-cons_eq}
 use Rattle.table_model.specs.Stores.{Row, Store, Kept, Shelf, empty_store, empty_shelf, map_kept, map_shelf, ranks_by, kept_of, shelf_of}
 use Rattle.table_model.specs.Steps.{places_by}
 use Rattle.table_model.specs.Changes.{insert_row, delete_row, delete_rows, lay_column, insert_cells, delete_number, delete_numbers, lay_store}
-use Rattle.table_model.specs.Soundness.{value_at, values_at, column_at, AllWide, Sound}
+use Rattle.table_model.specs.Soundness.{value_at, values_at, readings_at, ranks_at, column_at, AllWide, Sound}
 use Rattle.table_model.specs.Standing.{Stands}
-use Rattle.table_model.specs.StandingLaws.{KeepsStanding, readings_at, ranks_at}
+use Rattle.table_model.specs.StandingLaws.{KeepsStanding}
 use Rattle.table_model.proofs.Lists.{map-map, map-same}
 use Rattle.table_model.proofs.Maps.{shelves_are_blind}
 use Rattle.table_model.proofs.StoreMaps.{values-map_column}
@@ -95,7 +95,7 @@ readings-sealed seal v cs u column [] says = refl
 readings-sealed seal v cs u column (row ∷ rows) says =
     ap₂ (λ (x : ℕ) (rest : List ℕ). x ∷ rest) (ap (λ (xs : List ℕ). get_or xs column 0) (cells-read seal v u row.cells says)) (readings-sealed seal v cs u column rows says)
 
-ranks-sealed : {B C : Type 0} (seal : C → B) (column : ℕ) (kept : List (Kept C)) → ranks_at column (map (map_kept seal) kept) ≡ ranks_at column kept
+pub ranks-sealed : {B C : Type 0} (seal : C → B) (column : ℕ) (kept : List (Kept C)) → ranks_at column (map (map_kept seal) kept) ≡ ranks_at column kept
 unfolding ranks_at map_kept
 ranks-sealed seal column [] = refl
 ranks-sealed seal column (row ∷ kept) = ap (λ (rest : List ℕ). get_or row.ranks column 0 ∷ rest) (ranks-sealed seal column kept)

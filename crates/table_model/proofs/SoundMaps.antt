@@ -12,7 +12,7 @@ use Rattle.table_model.specs.Soundness.{numbers_of, value_at, values_at, column_
 use Rattle.table_model.proofs.Lists.{map-map, map-same}
 use Rattle.table_model.proofs.StoreMaps.{items-map, values-map, values-map_column}
 
-counts-map : {B C : Type 0} (f : B → C) (items : List (Item B)) → counts (map (map_item f) items) ≡ counts items
+pub counts-map : {B C : Type 0} (f : B → C) (items : List (Item B)) → counts (map (map_item f) items) ≡ counts items
 unfolding counts map_item
 counts-map {B} {C} f items = map-map (λ (item : Item C). item.count) (map_item f) items
 

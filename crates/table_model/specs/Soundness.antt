@@ -23,6 +23,13 @@ value_at v column row = get_or (map v row.cells) column 0
 unfoldable pub values_at : {B : Type 0} → (B → ℕ) → ℕ → List (Row B) → List ℕ
 values_at v column rows = map (value_at v column) rows
 
+-- of a table by rank: the ranks of the rows in a column, and what their bodies read as
+unfoldable pub ranks_at : {B : Type 0} → ℕ → List (Kept B) → List ℕ
+ranks_at column kept = map (λ row. get_or row.ranks column 0) kept
+
+unfoldable pub readings_at : {B : Type 0} → (B → ℕ) → ℕ → List (Kept B) → List ℕ
+readings_at u column kept = map (λ row. get_or (map u row.bodies) column 0) kept
+
 unfoldable pub column_at : {B : Type 0} → List (Column B) → ℕ → Column B
 column_at {B} cs column = get_or cs column (empty_column B)
 

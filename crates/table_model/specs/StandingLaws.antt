@@ -2,10 +2,10 @@
 use Rattle.std.specs.Prelude.{◌≡◌, ℕ, ◌<◌, Bool, List, length, map, get_or}
 use Rattle.tree_model.specs.Items.{values}
 use Rattle.tree_model.specs.Columns.{items_of}
-use Rattle.table_model.specs.Stores.{Store, Kept, Shelf, empty_store, empty_shelf}
+use Rattle.table_model.specs.Stores.{Store, Shelf, empty_store, empty_shelf}
 use Rattle.table_model.specs.Steps.{places_by}
 use Rattle.table_model.specs.Changes.{insert_row, delete_row, delete_rows, lay_column, insert_cells, delete_number, delete_numbers, lay_store}
-use Rattle.table_model.specs.Soundness.{column_at}
+use Rattle.table_model.specs.Soundness.{column_at, readings_at, ranks_at}
 use Rattle.table_model.specs.Operations.{Op, RankOp, ops_on, rank_ops_on, install_on, rank_install_on, placed_ops, map_rank_op, AllSound, AllSame}
 use Rattle.table_model.specs.Fitting.{AllFit, AllFitAt}
 use Rattle.table_model.specs.Standing.{Stands, AllStand}
@@ -23,13 +23,6 @@ pub record KeepsStanding (B C : Type 0) (seal : C → B) (v : C → ℕ) (same_t
 
 abbrev pub OperationsKeepStanding : Type 0 → Type 0 → Type 0
 OperationsKeepStanding B C = (seal : C → B) (v : C → ℕ) (same_time : Bool) (limit : ℕ) (table : Shelf B) (t : Store C) → Stands B C seal v same_time limit table t → KeepsStanding B C seal v same_time limit table t
-
--- for a reading u of bodies: what the rows' bodies read as in a column, and their ranks there
-unfoldable pub readings_at : {B : Type 0} → (B → ℕ) → ℕ → List (Kept B) → List ℕ
-readings_at u column kept = map (λ row. get_or (map u row.bodies) column 0) kept
-
-unfoldable pub ranks_at : {B : Type 0} → ℕ → List (Kept B) → List ℕ
-ranks_at column kept = map (λ row. get_or row.ranks column 0) kept
 
 -- where sealed cells read as their values, each row's body in a column reads as the item of its rank does
 abbrev pub BodiesReadAsItems : Type 0 → Type 0 → Type 0

@@ -1,0 +1,53 @@
+-- What the operations on a table by rank keep: the statements of laws that this crate's functions without a body prove.
+use Rattle.std.specs.Prelude.{◌≡◌, ℕ, ◌<◌, ◌≤◌, Bool, true, List, [], ◌∷◌, length, get_or}
+use Rattle.tree_model.specs.declared.Place.{Place}
+use Rattle.tree_model.specs.Trees.{size}
+use Rattle.tree_model.specs.Places.{holds}
+use Rattle.tree_model.specs.Columns.{Operation, Lay}
+use Rattle.table_model.specs.Stores.{Store, Shelf, empty_shelf, map_shelf, shelf_of}
+use Rattle.table_model.specs.Steps.{adds, drops, only}
+use Rattle.table_model.specs.Changes.{insert_row, delete_row, delete_rows, lay_column, ranks_of, kept_without}
+use Rattle.table_model.specs.Soundness.{ranks_at, column_at, Sound, FitsRows}
+use Rattle.table_model.specs.Fitting.{AllPlaced}
+use Rattle.table_model.specs.Standing.{Stands}
+use Rattle.table_model.specs.Wholeness.{Whole, RowsStay}
+
+abbrev pub EmptyIsWhole : Type 0 → Type 0
+EmptyIsWhole B = (same_time : Bool) (limit columns : ℕ) → Whole B same_time limit (empty_shelf B columns)
+
+-- each operation by rank leaves a whole table whole; an INSERT where each place is one of its column, and there are fewer rows than the limit
+pub record StaysWhole (B : Type 0) (same_time : Bool) (limit : ℕ) (s : Shelf B) : Type 0 where
+  pub inserts : (places : List Place) (bodies : List B) → AllPlaced s.columns places → length bodies ≡ length s.columns → length s.kept < limit → Whole B same_time limit (insert_row same_time places bodies s)
+  pub deletes : (number : ℕ) → Whole B same_time limit (delete_row same_time number s)
+  pub deletes_each : (numbers : List ℕ) → Whole B same_time limit (delete_rows same_time numbers s)
+  pub lays : (column : ℕ) → Whole B same_time limit (lay_column same_time column s)
+
+abbrev pub OperationsKeepWhole : Type 0 → Type 0
+OperationsKeepWhole B = (same_time : Bool) (limit : ℕ) (s : Shelf B) → Whole B same_time limit s → StaysWhole B same_time limit s
+
+-- and leaves each row that isn't deleted its items
+pub record LeavesRows (B : Type 0) (same_time : Bool) (s : Shelf B) : Type 0 where
+  pub inserts : (places : List Place) (bodies : List B) → RowsStay same_time (adds places bodies) s.columns s.kept
+  pub deletes : (number : ℕ) → RowsStay same_time (drops (ranks_of number s.kept)) s.columns (kept_without number s.kept)
+  pub lays : (column : ℕ) → RowsStay same_time (only column (Lay ∷ [])) s.columns s.kept
+
+abbrev pub OperationsLeaveRows : Type 0 → Type 0
+OperationsLeaveRows B = (same_time : Bool) (limit : ℕ) (s : Shelf B) → Whole B same_time limit s → LeavesRows B same_time s
+
+-- what follows for a column: each row's rank is one of its items', and the limit of rows bounds items, counts and ways
+pub record WholeGives (B : Type 0) (limit : ℕ) (s : Shelf B) (column : ℕ) : Type 0 where
+  pub within : (rank : ℕ) → holds rank (ranks_at column s.kept) ≡ true → rank < size (column_at s.columns column).tree
+  pub fits : FitsRows B limit (column_at s.columns column)
+
+abbrev pub WholeFitsRows : Type 0 → Type 0
+WholeFitsRows B = (same_time : Bool) (limit : ℕ) (s : Shelf B) (column : ℕ) → Whole B same_time limit s → column < length s.columns → WholeGives B limit s column
+
+-- a table by rank of a sound table is whole, with any bodies; so is one that stands for a table
+abbrev pub SoundIsWhole : Type 0 → Type 0
+SoundIsWhole B = (v : B → ℕ) (same_time : Bool) (limit : ℕ) (t : Store B) → Sound B v same_time limit t → Whole B same_time limit (shelf_of v t)
+
+abbrev pub WholeIsBlind : Type 0 → Type 0 → Type 0
+WholeIsBlind B C = (f : B → C) (same_time : Bool) (limit : ℕ) (s : Shelf B) → Whole B same_time limit s → Whole C same_time limit (map_shelf f s)
+
+abbrev pub StandsIsWhole : Type 0 → Type 0 → Type 0
+StandsIsWhole B C = (seal : C → B) (v : C → ℕ) (same_time : Bool) (limit : ℕ) (table : Shelf B) (t : Store C) → Stands B C seal v same_time limit table t → Whole B same_time limit table

@@ -33,7 +33,7 @@ pub length-keys : {B : Type 0} (v : B → ℕ) (c : Column B) → length (keys v
 unfolding values items_of
 length-keys {B} v c = length-map (inorder c.tree) (λ (item : Item B). v item.body) ∙ length-inorder c.tree
 
-length-items : {B : Type 0} (c : Column B) → length (items_of c) ≡ size c.tree
+pub length-items : {B : Type 0} (c : Column B) → length (items_of c) ≡ size c.tree
 unfolding items_of
 length-items c = length-inorder c.tree
 

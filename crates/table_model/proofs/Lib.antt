@@ -14,3 +14,5 @@ pub mod Ops
 pub mod ByColumns
 pub mod SealedTables
 pub mod WholeMaps
+pub mod Spread
+pub mod WholeOps

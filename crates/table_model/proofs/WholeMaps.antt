@@ -29,10 +29,10 @@ use Rattle.table_model.proofs.Sealed.{rank-at, ranks-sealed}
 
 -- ---- columns
 
-column-counts : {B C : Type 0} (f : B → C) (c : Column B) → counts (items_of (map_column f c)) ≡ counts (items_of c)
+pub column-counts : {B C : Type 0} (f : B → C) (c : Column B) → counts (items_of (map_column f c)) ≡ counts (items_of c)
 column-counts f c = ap counts (items-map f c) ∙ counts-map f (items_of c)
 
-column-size : {B C : Type 0} (f : B → C) (c : Column B) → size (map_column f c).tree ≡ size c.tree
+pub column-size : {B C : Type 0} (f : B → C) (c : Column B) → size (map_column f c).tree ≡ size c.tree
 unfolding map_column
 column-size f c = size-map_tree (map_item f) c.tree
 

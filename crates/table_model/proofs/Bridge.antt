@@ -1,22 +1,21 @@
 -- The table by rank of a table by value goes with it.
-use Rattle.std.proofs.Common.{◌≡◌, ℕ, suc, zero, ◌+◌, ◌<◌, ◌≤◌, Bool, true, false, List, [], ◌∷◌, ◌++◌, length, map, get_or, refl, ap, ap₂, ◌∙◌, sym, subst, inl, inr, arith}
+use Rattle.std.proofs.Common.{◌≡◌, ℕ, suc, ◌<◌, Bool, true, false, List, [], ◌∷◌, ◌++◌, length, map, refl, ap, ap₂, ◌∙◌, sym, subst, inl, inr}
 use Rattle.std.proofs.lemmas.Bool.{cases_Bool}
 use Rattle.std.proofs.lemmas.List.{map-append}
-use Rattle.tree_model.specs.declared.Place.{Place}
 use Rattle.tree_model.specs.Places.{below, holds}
-use Rattle.tree_model.specs.Columns.{Column, Operation, Lay}
+use Rattle.tree_model.specs.Columns.{Column, Lay}
 use Rattle.tree_model.specs.Tallies.{IsOneMore}
 use Rattle.tree_model.proofs.Ordered.{held_at-below}
 use Rattle.table_model.specs.Stores.{Row, Store, Kept, Shelf, empty_store, empty_shelf, ranks_by, kept_of, shelf_of}
-use Rattle.table_model.specs.Steps.{operate, follow, kept_after, operated, adds, drops, only, rank_in, places_by}
+use Rattle.table_model.specs.Steps.{operate, follow, kept_after, operated, adds, drops, only, places_by}
 use Rattle.table_model.specs.Changes.{cells_of, rows_without, ranks_of, kept_without, with_row, insert_row, without_row, delete_row, delete_rows, lay_column, insert_cells, delete_number, delete_numbers, lay_store}
 use Rattle.table_model.specs.Soundness.{numbers_of, values_at, column_at, Sound}
 use Rattle.table_model.specs.ShelfLaws.{IsByRank}
-use Rattle.table_model.proofs.Lists.{map-map, map-same, map-nothing, without-map, beside-map}
+use Rattle.table_model.proofs.Lists.{map-map, map-nothing, without-map, beside-map}
 use Rattle.table_model.proofs.Following.{keys, Owned, owned-within, carried-drop}
 use Rattle.table_model.proofs.Numbers.{without-none, beside-none, one_without, held-later}
 use Rattle.table_model.proofs.Rows.{value_in, ranks-add, FollowsDrop, ranks-drop, ranks-lay, ranks-new, rows-follow}
-use Rattle.table_model.proofs.Sound.{owned-of, has_number, cells-none, rows-none, delete-none, owned-gone, delete-sound}
+use Rattle.table_model.proofs.Sound.{owned-of, has_number, delete-none, owned-gone, delete-sound}
 
 abbrev shelf : {B : Type 0} → List (Kept B) → ℕ → List (Column B) → Shelf B
 shelf kept next columns = record { kept = kept; next = next; columns = columns }

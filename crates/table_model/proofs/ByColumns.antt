@@ -1,10 +1,10 @@
 -- The lists of operations that each column goes through.
-use Rattle.std.proofs.Common.{◌≡◌, ℕ, suc, zero, ◌+◌, ◌<◌, Bool, true, false, ◌==◌, List, [], ◌∷◌, ◌++◌, length, map, get_or, refl, ap, ap₂, ◌∙◌, sym, subst, inl, inr, arith, eqb, eq-eqb, ne_eqb, ◌≢◌}
-use Rattle.std.proofs.lemmas.Bool.{cases_Bool, cases_eq}
+use Rattle.std.proofs.Common.{◌≡◌, ℕ, suc, zero, Bool, true, false, ◌==◌, List, [], ◌∷◌, map, refl, ap, ap₂, ◌∙◌, sym, subst, inl, inr, eqb, eq-eqb, ne_eqb, ◌≢◌}
+use Rattle.std.proofs.lemmas.Bool.{cases_eq}
 use Rattle.std.proofs.lemmas.List.{map-append}
 use Rattle.tree_model.specs.declared.Place.{Place}
 use Rattle.tree_model.specs.Items.{change_at}
-use Rattle.tree_model.specs.Columns.{Column, Operation, Lay, apply_all, map_operation}
+use Rattle.tree_model.specs.Columns.{Column, Operation, Lay, map_operation}
 use Rattle.tree_model.proofs.Summed.{apply_all-append}
 use Rattle.table_model.specs.Stores.{Shelf, empty_shelf, map_shelf}
 use Rattle.table_model.specs.Steps.{operate, operated, then_steps, all_steps, adds, drops, only, map_steps}

@@ -1,5 +1,5 @@
 -- One column: a row's rank follows its item where the row is still there, and a sound column stays sound.
-use Rattle.std.proofs.Common.{◌≡◌, ℕ, suc, zero, ◌+◌, ◌<◌, ◌≤◌, Bool, true, false, ◌||◌, List, [], ◌∷◌, ◌++◌, length, map, get_or, insert, refl, ap, ap₂, ◌∙◌, sym, subst, arith, ltb}
+use Rattle.std.proofs.Common.{◌≡◌, ℕ, suc, zero, ◌<◌, Bool, true, false, List, [], ◌∷◌, length, get_or, insert, refl, ap, ◌∙◌, sym, subst, arith, ltb}
 use Rattle.std.proofs.lemmas.Bool.{le-ltb}
 use Rattle.std.proofs.lemmas.List.{length-map, get_or-map}
 use Rattle.tree_model.specs.declared.Place.{Place}
@@ -8,15 +8,14 @@ use Rattle.tree_model.specs.Trees.{size, inorder}
 use Rattle.tree_model.specs.Places.{one_if, below, holds, placed, place, IsIncreasing}
 use Rattle.tree_model.specs.Items.{Item, values, one_less, change_at, add_item}
 use Rattle.tree_model.specs.Columns.{Column, items_of, add, drop_one, lay, Operation, Add, Drop, Lay, apply, apply_all}
-use Rattle.tree_model.specs.ColumnLaws.{IsKept, SuitsMode}
 use Rattle.tree_model.specs.Sums.{origins}
 use Rattle.tree_model.specs.Carried.{carried}
 use Rattle.tree_model.specs.Ranks.{stays_after}
-use Rattle.tree_model.specs.Tallies.{tally, Tallied, IsOneMore, lowered, counts, TalliedItems}
+use Rattle.tree_model.specs.Tallies.{tally, IsOneMore, counts, TalliedItems}
 use Rattle.tree_model.proofs.Ways.{length-inorder}
 use Rattle.tree_model.proofs.Ordered.{held_at-below}
 use Rattle.tree_model.proofs.Changes.{length-change_at, values-add_found, values-add_gap}
-use Rattle.tree_model.proofs.Kept.{items-add, items-drop, items-lay, IsKept-add, IsKept-drop, IsKept-lay}
+use Rattle.tree_model.proofs.Kept.{items-add, items-lay, IsKept-add, IsKept-drop, IsKept-lay}
 use Rattle.tree_model.proofs.Suits.{SuitsMode-add, SuitsMode-drop, SuitsMode-lay}
 use Rattle.tree_model.proofs.ColumnOrder.{operations_keep_order}
 use Rattle.tree_model.proofs.RankLaws.{rank_after_operation, values_follow, rows_keep_item, carried_of_nothing}

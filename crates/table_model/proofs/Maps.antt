@@ -1,13 +1,12 @@
 -- Nothing that is done to a table by rank looks at bodies.
-use Rattle.std.proofs.Common.{◌≡◌, ℕ, suc, zero, Bool, true, false, ◌==◌, List, [], ◌∷◌, ◌++◌, map, refl, ap, ap₂, ◌∙◌, sym}
+use Rattle.std.proofs.Common.{◌≡◌, ℕ, suc, zero, Bool, List, [], ◌∷◌, map, refl, ap, ap₂, ◌∙◌, sym}
 use Rattle.std.proofs.lemmas.List.{map-append}
 use Rattle.tree_model.specs.declared.Place.{Place}
-use Rattle.tree_model.specs.Columns.{Column, Operation, Add, Drop, Lay, apply_all, map_column, map_operation}
-use Rattle.tree_model.specs.Sums.{origins}
+use Rattle.tree_model.specs.Columns.{Column, Operation, Add, Drop, Lay, map_column, map_operation}
 use Rattle.tree_model.specs.Carried.{carried}
 use Rattle.tree_model.proofs.Blind.{apply_all-map}
 use Rattle.tree_model.proofs.Summed.{origins-map}
-use Rattle.table_model.specs.Stores.{Row, Store, Kept, Shelf, map_kept, map_shelf}
+use Rattle.table_model.specs.Stores.{Kept, Shelf, map_kept, map_shelf}
 use Rattle.table_model.specs.Steps.{operate, follow, kept_after, operated, adds, drops, only, rank_in, map_steps}
 use Rattle.table_model.specs.Changes.{ranks_of, kept_without, with_row, insert_row, without_row, delete_row, delete_rows, delete_steps, lay_column}
 use Rattle.table_model.specs.ShelfLaws.{IsBlind}

@@ -1,11 +1,10 @@
 -- The row of a number: the rows without it, and what it has.
-use Rattle.std.proofs.Common.{◌≡◌, ℕ, suc, zero, ◌+◌, ◌<◌, ◌≤◌, Bool, true, false, ◌||◌, ◌==◌, List, [], ◌∷◌, ◌++◌, length, map, get_or, refl, ap, ap₂, ◌∙◌, sym, subst, inl, inr, arith, eqb, eq-eqb}
-use Rattle.std.proofs.lemmas.Bool.{cases_Bool}
+use Rattle.std.proofs.Common.{◌≡◌, ℕ, suc, ◌≤◌, Bool, true, false, ◌||◌, List, [], ◌∷◌, ◌++◌, length, map, get_or, refl, ap, ◌∙◌, sym, subst, arith, eqb, eq-eqb}
 use Rattle.tree_model.specs.Places.{one_if, holds, IsBelowAll, IsIncreasing}
 use Rattle.tree_model.specs.Tallies.{tally, IsOneMore}
 use Rattle.tree_model.proofs.CarriedRanks.{false_is_true}
 use Rattle.tree_model.proofs.TalliedRows.{tally-held, held-tally}
-use Rattle.table_model.specs.Stores.{Row, Kept}
+use Rattle.table_model.specs.Stores.{Row}
 use Rattle.table_model.specs.Changes.{here_or, without, beside, cells_of, rows_without}
 use Rattle.table_model.specs.Soundness.{numbers_of, value_at, values_at, AllWide}
 use Rattle.table_model.proofs.Lists.{without-map}

@@ -1,15 +1,15 @@
 -- Operations on several tables.
-use Rattle.std.proofs.Common.{◌≡◌, ℕ, suc, zero, ◌+◌, ◌<◌, ◌≤◌, Bool, List, [], ◌∷◌, ◌++◌, length, map, get_or, refl, ap, ap₂, ◌∙◌, sym, subst, arith}
+use Rattle.std.proofs.Common.{◌≡◌, ℕ, suc, zero, ◌<◌, Bool, List, [], ◌∷◌, length, map, refl, ap, ap₂, ◌∙◌, sym, subst, arith}
 use Rattle.std.proofs.lemmas.List.{length-map}
 use Rattle.tree_model.specs.declared.Place.{Place}
-use Rattle.tree_model.specs.Trees.{size, IsPlaceOf}
+use Rattle.tree_model.specs.Trees.{IsPlaceOf}
 use Rattle.tree_model.specs.Places.{place, IsIncreasing}
-use Rattle.tree_model.specs.Items.{Item, map_item, change_at}
+use Rattle.tree_model.specs.Items.{map_item, change_at}
 use Rattle.tree_model.proofs.Mapped.{size-map_tree}
 use Rattle.tree_model.proofs.Ordered.{IsPlaceOf-place}
 use Rattle.tree_model.specs.Columns.{Column, items_of, map_column}
-use Rattle.tree_model.proofs.Changes.{length-change_at, map-change_at_other}
-use Rattle.table_model.specs.Stores.{Row, Store, Kept, Shelf, empty_shelf, map_row, map_store, map_kept, map_shelf, kept_of, shelf_of}
+use Rattle.tree_model.proofs.Changes.{map-change_at_other}
+use Rattle.table_model.specs.Stores.{Row, Store, Kept, Shelf, empty_shelf, map_store, map_kept, map_shelf, kept_of, shelf_of}
 use Rattle.table_model.specs.Steps.{places_by}
 use Rattle.table_model.specs.Changes.{insert_row, delete_rows, lay_column, insert_cells, delete_numbers, lay_store}
 use Rattle.table_model.specs.Soundness.{numbers_of, kept_numbers, column_at, Sound, Same}
@@ -92,9 +92,10 @@ placed-all : {B : Type 0} (v : B → ℕ) (cs : List (Column B)) (cells : List B
 unfolding AllPlaced places_by column_at
 placed-all v [] cells wide up = tt
 placed-all v (c ∷ cs) [] wide up = absurd (omega (arith, wide))
-placed-all v (c ∷ cs) (cell ∷ cells) wide up =
-    (subst (λ (n : ℕ). IsPlaceOf n (place (keys v c) (v cell))) (length-keys v c) (IsPlaceOf-place (keys v c) (v cell) (up 0 (omega arith))),
-    placed-all v cs cells (omega (arith, wide)) (λ i h. up (suc i) (omega (arith, h))))
+placed-all v (c ∷ cs) (cell ∷ cells) wide up = (
+  subst (λ (n : ℕ). IsPlaceOf n (place (keys v c) (v cell))) (length-keys v c) (IsPlaceOf-place (keys v c) (v cell) (up 0 (omega arith))),
+  placed-all v cs cells (omega (arith, wide)) (λ i h. up (suc i) (omega (arith, h))),
+)
 
 op-fits : {B : Type 0} (v : B → ℕ) (same_time : Bool) (limit : ℕ) (op : Op B) (stores : List (Store B)) → AllSound v same_time limit stores → Fits limit op stores → FitsAt limit (placed_op v op stores) (map (shelf_of v) stores)
 unfolding Fits FitsAt placed_op
@@ -215,9 +216,10 @@ fits_at-map {B} {C} f limit (DeleteAt table numbers) shelves fits =
 all_fit_at-map : {B C : Type 0} (f : B → C) (same_time : Bool) (limit : ℕ) (ops : List (RankOp B)) (shelves : List (Shelf B)) → AllFitAt same_time limit ops shelves → AllFitAt same_time limit (map (map_rank_op f) ops) (map (map_shelf f) shelves)
 unfolding AllFitAt
 all_fit_at-map f same_time limit [] shelves fit = fit
-all_fit_at-map f same_time limit (op ∷ ops) shelves fit =
-    (fits_at-map f limit op shelves fit.0,
-    subst (AllFitAt same_time limit (map (map_rank_op f) ops)) (sym (rank_op-map f same_time op shelves)) (all_fit_at-map f same_time limit ops (rank_op_on same_time op shelves) fit.1))
+all_fit_at-map f same_time limit (op ∷ ops) shelves fit = (
+  fits_at-map f limit op shelves fit.0,
+  subst (AllFitAt same_time limit (map (map_rank_op f) ops)) (sym (rank_op-map f same_time op shelves)) (all_fit_at-map f same_time limit ops (rank_op_on same_time op shelves) fit.1),
+)
 
 pub operations_are_blind : {B C : Type 0} (f : B → C) (v : C → ℕ) (same_time : Bool) → OpsAreBlind B C f v same_time
 operations_are_blind f v same_time = record { by_rank = rank_ops-map f same_time; by_value = ops-map f v same_time; placed = placed_ops-map f v same_time; fit = all_fit_at-map f same_time }

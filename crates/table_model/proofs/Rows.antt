@@ -1,9 +1,7 @@
 -- The ranks of rows follow their items, for each kind of operation, column by column.
-use Rattle.std.proofs.Common.{◌≡◌, ℕ, suc, zero, ◌+◌, ◌<◌, ◌≤◌, Bool, true, false, ◌||◌, List, [], ◌∷◌, ◌++◌, length, map, get_or, refl, ap, ap₂, ◌∙◌, sym, subst, arith, eqb}
-use Rattle.tree_model.specs.declared.Place.{Place}
+use Rattle.std.proofs.Common.{◌≡◌, ℕ, suc, zero, ◌<◌, Bool, true, false, ◌||◌, List, [], ◌∷◌, length, map, get_or, refl, ap, ap₂, ◌∙◌, sym, subst, arith, eqb}
 use Rattle.tree_model.specs.Places.{below, holds, place}
-use Rattle.tree_model.specs.Items.{values}
-use Rattle.tree_model.specs.Columns.{Column, items_of, add, drop_one, lay, Operation, Add, Drop, Lay, apply, apply_all}
+use Rattle.tree_model.specs.Columns.{Column, drop_one, Operation, Drop, Lay, apply, apply_all}
 use Rattle.tree_model.specs.Sums.{origins}
 use Rattle.tree_model.specs.Carried.{carried}
 use Rattle.tree_model.specs.Tallies.{IsOneMore}

@@ -1,10 +1,10 @@
 -- Tables that differ by balancing alone behave the same.
-use Rattle.std.proofs.Common.{◌≡◌, ℕ, suc, zero, ◌+◌, ◌<◌, ◌≤◌, Bool, List, [], ◌∷◌, ◌++◌, length, map, get_or, drop, refl, ap, ap₂, ◌∙◌, sym, subst, arith}
+use Rattle.std.proofs.Common.{◌≡◌, ℕ, suc, zero, ◌<◌, Bool, List, [], ◌∷◌, ◌++◌, length, map, get_or, drop, refl, ap, ap₂, ◌∙◌, sym, arith}
 use Rattle.tree_model.specs.declared.Place.{Place}
 use Rattle.tree_model.specs.Places.{below, place}
-use Rattle.tree_model.specs.Trees.{Tree, inorder, size, balanced}
+use Rattle.tree_model.specs.Trees.{balanced}
 use Rattle.tree_model.specs.Items.{Item, values}
-use Rattle.tree_model.specs.Columns.{Column, items_of, lay, Operation, Add, Drop, Lay, apply, apply_all}
+use Rattle.tree_model.specs.Columns.{Column, items_of, lay, Operation, Lay, apply, apply_all}
 use Rattle.tree_model.specs.ColumnLaws.{SuitsMode}
 use Rattle.tree_model.proofs.Ways.{length-inorder}
 use Rattle.tree_model.proofs.Kept.{items-lay}

@@ -1,7 +1,6 @@
 -- A table by rank that stands for a table by value.
-use Rattle.std.proofs.Common.{◌≡◌, ℕ, suc, zero, ◌+◌, ◌<◌, ◌≤◌, Bool, true, ◌||◌, List, [], ◌∷◌, ◌++◌, length, map, get_or, replicate, refl, ap, ap₂, ◌∙◌, sym, subst, arith}
+use Rattle.std.proofs.Common.{◌≡◌, ℕ, suc, zero, ◌<◌, Bool, true, List, [], ◌∷◌, length, map, get_or, replicate, refl, ap, ap₂, ◌∙◌, sym, subst, arith}
 use Rattle.std.proofs.lemmas.List.{length-map}
-use Rattle.tree_model.specs.declared.Place.{Place}
 use Rattle.tree_model.specs.Places.{below, holds}
 use Rattle.tree_model.specs.Items.{Item, values}
 use Rattle.tree_model.specs.Trees.{map_tree}
@@ -9,7 +8,7 @@ use Rattle.tree_model.specs.Columns.{Column, empty_column, items_of, map_column}
 use Rattle.tree_model.proofs.Ordered.{held_at-below, holds-cons_eq}
 use Rattle.table_model.specs.Stores.{Row, Store, Kept, Shelf, empty_store, empty_shelf, map_kept, map_shelf, ranks_by, kept_of, shelf_of}
 use Rattle.table_model.specs.Steps.{places_by}
-use Rattle.table_model.specs.Changes.{insert_row, delete_row, delete_rows, lay_column, insert_cells, delete_number, delete_numbers, lay_store}
+use Rattle.table_model.specs.Changes.{insert_row, delete_row, delete_rows, lay_column}
 use Rattle.table_model.specs.Soundness.{value_at, values_at, readings_at, ranks_at, column_at, AllWide, Sound}
 use Rattle.table_model.specs.Standing.{Stands}
 use Rattle.table_model.specs.StandingLaws.{KeepsStanding}

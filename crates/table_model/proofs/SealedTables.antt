@@ -1,7 +1,7 @@
 -- Several tables by rank that stand for tables by value.
-use Rattle.std.proofs.Common.{◌≡◌, ℕ, ◌<◌, Bool, List, [], ◌∷◌, map, refl, ap, ap₂, ◌∙◌, sym, subst}
+use Rattle.std.proofs.Common.{◌≡◌, ℕ, Bool, List, map, ap, ap₂, ◌∙◌, sym, subst}
 use Rattle.table_model.specs.Stores.{Store, Shelf, map_shelf, shelf_of}
-use Rattle.table_model.specs.Operations.{Op, RankOp, ops_on, rank_ops_on, install_on, rank_install_on, placed_ops, map_rank_op, AllSound, AllSame}
+use Rattle.table_model.specs.Operations.{Op, RankOp, rank_ops_on, install_on, rank_install_on, placed_ops, map_rank_op, AllSound, AllSame}
 use Rattle.table_model.specs.Fitting.{AllFit, AllFitAt}
 use Rattle.table_model.specs.Standing.{AllStand}
 use Rattle.table_model.specs.StandingLaws.{OpsStand}
@@ -21,11 +21,11 @@ operations_stand {B} {C} seal v same_time limit ops base stores shelves stands s
       fit = subst (λ (p : List (RankOp B)). AllFitAt same_time limit p shelves) (sym is)
           (subst (AllFitAt same_time limit (map (map_rank_op seal) placed)) (sym stands.same) (blind.fit limit placed shown by_rank.fit));
       stand = record {
-          same = ap₂ (λ (p : List (RankOp B)) (s : List (Shelf B)). rank_ops_on same_time p s) is stands.same
-          ∙ blind.by_rank placed shown
-          ∙ ap (map (map_shelf seal)) (sym by_rank.shelves);
-          sound = by_rank.sound;
-        };
+        same = ap₂ (λ (p : List (RankOp B)) (s : List (Shelf B)). rank_ops_on same_time p s) is stands.same
+            ∙ blind.by_rank placed shown
+            ∙ ap (map (map_shelf seal)) (sym by_rank.shelves);
+        sound = by_rank.sound;
+      };
     }
 
 pub install_stands : {B C : Type 0} (seal : C → B) (v : C → ℕ) (same_time : Bool) (limit table column : ℕ) (stores : List (Store C)) (shelves : List (Shelf B)) → AllStand B C seal v same_time limit shelves stores → AllStand B C seal v same_time limit (rank_install_on same_time table column shelves) (install_on same_time table column stores)

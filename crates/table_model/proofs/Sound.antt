@@ -1,15 +1,14 @@
 -- Sound tables: what they give, and that each operation leaves them sound.
-use Rattle.std.proofs.Common.{◌≡◌, ℕ, suc, zero, ◌+◌, ◌*◌, ◌/◌, ◌^◌, ◌<◌, ◌≤◌, Bool, true, false, List, [], ◌∷◌, ◌++◌, length, map, get_or, replicate, refl, ap, ap₂, ◌∙◌, sym, subst, inl, inr, arith, eqb}
+use Rattle.std.proofs.Common.{◌≡◌, ℕ, suc, zero, ◌+◌, ◌*◌, ◌/◌, ◌<◌, ◌≤◌, Bool, true, false, List, [], ◌∷◌, ◌++◌, length, map, get_or, replicate, refl, ap, ap₂, ◌∙◌, sym, subst, inl, inr, arith, eqb}
 use Rattle.std.proofs.lemmas.Bool.{cases_Bool}
 use Rattle.std.proofs.lemmas.List.{length-map, map-append, length-append}
 use Rattle.tree_model.specs.declared.Place.TheVariants.{Found}
 use Rattle.tree_model.specs.Places.{one_if, below, holds, placed, place, IsBelowAll, IsIncreasing}
 use Rattle.tree_model.specs.Items.{values}
 use Rattle.tree_model.proofs.CarriedRanks.{false_is_true}
-use Rattle.tree_model.specs.Trees.{inorder, size, height}
-use Rattle.tree_model.specs.Columns.{Column, empty_column, items_of, Operation, Drop, Lay}
-use Rattle.tree_model.specs.ColumnLaws.{IsKept, SuitsMode}
-use Rattle.tree_model.specs.Tallies.{tally, Tallied, IsOneMore, counts, TalliedItems}
+use Rattle.tree_model.specs.Trees.{inorder}
+use Rattle.tree_model.specs.Columns.{Column, empty_column, items_of, Lay}
+use Rattle.tree_model.specs.Tallies.{tally, IsOneMore, counts, TalliedItems}
 use Rattle.tree_model.proofs.Ordered.{held_at-below, holds-at}
 use Rattle.tree_model.proofs.Kept.{IsKept-empty, IsKept-within, IsKept-short}
 use Rattle.tree_model.proofs.Suits.{SuitsMode-empty}
@@ -18,9 +17,9 @@ use Rattle.tree_model.proofs.TalliedItems.{most_within_rows}
 use Rattle.table_model.specs.Stores.{Row, Store, empty_store, ranks_by}
 use Rattle.table_model.specs.Steps.{operate, adds, drops, only, places_by}
 use Rattle.table_model.specs.Changes.{cells_of, rows_without, insert_cells, delete_number, delete_numbers, lay_store}
-use Rattle.table_model.specs.Soundness.{numbers_of, value_at, values_at, column_at, AllWide, SoundColumn, Sound, IsLow, FitsRows, OwnItem}
+use Rattle.table_model.specs.Soundness.{numbers_of, value_at, values_at, column_at, AllWide, SoundColumn, Sound, FitsRows, OwnItem}
 use Rattle.table_model.specs.StoreLaws.{StaysSound}
-use Rattle.table_model.proofs.Following.{keys, Owned, owned-within, length-keys}
+use Rattle.table_model.proofs.Following.{keys, Owned, owned-within}
 use Rattle.table_model.proofs.Numbers.{without-none, beside-none, one_without, held-new, wide-without, wide-cells, wide-last, length-without, numbered-without, rising-last}
 use Rattle.table_model.proofs.Rows.{value_in, length-operate, sound-adds, sound-drops, sound-lays}
 

@@ -1,16 +1,16 @@
 -- Soundness doesn't depend on bodies but for their values.
-use Rattle.std.proofs.Common.{◌≡◌, ℕ, suc, zero, ◌+◌, ◌<◌, ◌≤◌, Bool, List, [], ◌∷◌, ◌++◌, length, map, get_or, refl, ap, ap₂, ◌∙◌, sym, subst, arith}
+use Rattle.std.proofs.Common.{◌≡◌, ℕ, suc, zero, Bool, List, [], ◌∷◌, ◌++◌, length, map, get_or, refl, ap, ◌∙◌, sym, subst, arith}
 use Rattle.std.proofs.lemmas.List.{length-map}
 use Rattle.tree_model.specs.Places.{IsIncreasing}
 use Rattle.tree_model.specs.Items.{Item, map_item, values}
-use Rattle.tree_model.specs.Trees.{Tree, map_tree}
+use Rattle.tree_model.specs.Trees.{map_tree}
 use Rattle.tree_model.specs.Columns.{Column, empty_column, items_of, map_column}
 use Rattle.tree_model.specs.Tallies.{Tallied, counts, TalliedItems}
 use Rattle.tree_model.proofs.ColumnOrder.{IsKept-map, SuitsMode-map}
 use Rattle.table_model.specs.Stores.{Row, Store, map_row, map_store}
 use Rattle.table_model.specs.Soundness.{numbers_of, value_at, values_at, column_at, AllWide, SoundColumn, Sound}
 use Rattle.table_model.proofs.Lists.{map-map, map-same}
-use Rattle.table_model.proofs.StoreMaps.{items-map, values-map, values-map_column}
+use Rattle.table_model.proofs.StoreMaps.{items-map, values-map}
 
 pub counts-map : {B C : Type 0} (f : B → C) (items : List (Item B)) → counts (map (map_item f) items) ≡ counts items
 unfolding counts map_item

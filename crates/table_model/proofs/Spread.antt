@@ -1,5 +1,5 @@
 -- A whole table by rank as a table by value, with the value 2 * rank + 1 for an item: then each place has a value, its number.
-use Rattle.std.proofs.Common.{◌≡◌, ℕ, suc, zero, ◌+◌, ◌*◌, ◌<◌, ◌≤◌, Bool, true, false, List, [], ◌∷◌, ◌++◌, length, map, get_or, Option, Some, None, refl, ap, ap₂, ◌∙◌, sym, subst, inl, inr, arith}
+use Rattle.std.proofs.Common.{◌≡◌, ℕ, suc, zero, ◌+◌, ◌*◌, ◌<◌, Bool, true, false, List, [], ◌∷◌, ◌++◌, length, map, get_or, Option, Some, None, refl, ap, ap₂, ◌∙◌, sym, subst, inl, inr, arith}
 use Rattle.std.specs.List.{range_with_len}
 use Rattle.std.proofs.lemmas.List.{length-map, get_or-map}
 use Rattle.std.proofs.lemmas.List.FromFn.{length-map-range_with_len, get_or-map-range_with_len}
@@ -10,7 +10,7 @@ use Rattle.tree_model.specs.Places.{below, holds, place, number, IsBelowAll, IsI
 use Rattle.tree_model.specs.Items.{Item, map_item, values}
 use Rattle.tree_model.specs.Columns.{Column, items_of, map_column, apply_all}
 use Rattle.tree_model.specs.Sums.{bodies, tagged_column, blank, origins}
-use Rattle.tree_model.specs.Tallies.{Tallied, counts, TalliedItems}
+use Rattle.tree_model.specs.Tallies.{Tallied, counts}
 use Rattle.tree_model.proofs.Ordered.{holds-cons_eq, holds-cons_ne, place-IsFound, place-IsGap, found_of_place}
 use Rattle.tree_model.proofs.Mapped.{size-map_tree}
 use Rattle.tree_model.proofs.CarriedRanks.{false_is_true}
@@ -22,11 +22,11 @@ use Rattle.table_model.specs.Steps.{places_by}
 use Rattle.table_model.specs.Soundness.{numbers_of, kept_numbers, value_at, values_at, ranks_at, column_at, AllWide, SoundColumn, Sound}
 use Rattle.table_model.specs.Fitting.{AllPlaced}
 use Rattle.table_model.specs.Wholeness.{AllFull, WholeColumn, Whole}
-use Rattle.table_model.proofs.Lists.{map-map, map-same, map-nothing}
+use Rattle.table_model.proofs.Lists.{map-map, map-nothing}
 use Rattle.table_model.proofs.StoreMaps.{values-map_column, map_column-twice}
 use Rattle.table_model.proofs.Following.{keys}
 use Rattle.table_model.proofs.Rows.{held-cons}
-use Rattle.table_model.proofs.WholeMaps.{column-whole, column-back, tallied-ranks}
+use Rattle.table_model.proofs.WholeMaps.{column-whole, column-back}
 
 abbrev pub itself : ℕ → ℕ
 itself n = n

@@ -1,5 +1,5 @@
 -- Tables by value over mapped cells.
-use Rattle.std.proofs.Common.{◌≡◌, ℕ, suc, zero, Bool, true, false, List, [], ◌∷◌, ◌++◌, map, refl, ap, ap₂, ◌∙◌, sym}
+use Rattle.std.proofs.Common.{◌≡◌, ℕ, suc, Bool, List, [], ◌∷◌, map, refl, ap, ap₂, ◌∙◌, sym}
 use Rattle.std.proofs.lemmas.List.{map-append}
 use Rattle.tree_model.specs.declared.Place.{Place}
 use Rattle.tree_model.specs.Trees.{Tree, leaf, node, map_tree}
@@ -9,7 +9,7 @@ use Rattle.tree_model.specs.Columns.{Column, items_of, Operation, Lay, map_colum
 use Rattle.tree_model.proofs.Mapped.{inorder-map_tree}
 use Rattle.tree_model.proofs.Summed.{map_tree-same}
 use Rattle.table_model.specs.Stores.{Row, Store, Kept, Shelf, map_row, map_store, map_kept, map_shelf, ranks_by, kept_of, shelf_of}
-use Rattle.table_model.specs.Steps.{operate, adds, drops, only, places_by, map_steps}
+use Rattle.table_model.specs.Steps.{operate, adds, drops, only, places_by}
 use Rattle.table_model.specs.Changes.{cells_of, rows_without, insert_cells, delete_number, delete_numbers, lay_store}
 use Rattle.table_model.specs.ShelfLaws.{MapsStore, MapsCompose, MapsNothing}
 use Rattle.table_model.proofs.Lists.{map-map, map-same, map-nothing, without-map, beside-map}

@@ -1,16 +1,16 @@
 -- A table by rank is whole with any bodies or with none, and that of a sound table is whole.
-use Rattle.std.proofs.Common.{◌≡◌, ℕ, suc, zero, ◌+◌, ◌*◌, ◌<◌, ◌≤◌, Bool, true, false, List, [], ◌∷◌, ◌++◌, length, map, get_or, refl, ap, ap₂, ◌∙◌, sym, subst, arith}
+use Rattle.std.proofs.Common.{◌≡◌, ℕ, suc, zero, ◌+◌, ◌<◌, ◌≤◌, Bool, true, false, List, [], ◌∷◌, ◌++◌, length, map, get_or, refl, ap, ap₂, ◌∙◌, sym, subst, arith}
 use Rattle.std.specs.List.{range_with_len}
 use Rattle.std.proofs.lemmas.List.{length-map}
 use Rattle.tree_model.specs.declared.Place.TheVariants.{Found}
 use Rattle.tree_model.specs.declared.Side.{Side}
-use Rattle.tree_model.specs.Trees.{Tree, inorder, size, path, map_tree}
-use Rattle.tree_model.specs.Places.{below, holds, IsBelowAll, IsIncreasing}
-use Rattle.tree_model.specs.Items.{Item, map_item, values, live, AllLive}
+use Rattle.tree_model.specs.Trees.{inorder, size}
+use Rattle.tree_model.specs.Places.{below, IsBelowAll, IsIncreasing}
+use Rattle.tree_model.specs.Items.{Item, map_item, AllLive}
 use Rattle.tree_model.specs.Balance.{limit}
 use Rattle.tree_model.specs.Columns.{Column, items_of, map_column}
 use Rattle.tree_model.specs.ColumnLaws.{IsKept, SuitsMode}
-use Rattle.tree_model.specs.Tallies.{Tallied, counts, TalliedItems}
+use Rattle.tree_model.specs.Tallies.{Tallied, counts}
 use Rattle.tree_model.proofs.Mapped.{size-map_tree, inorder-map_tree, path-map_tree}
 use Rattle.tree_model.proofs.Blind.{live-map_tree}
 use Rattle.tree_model.proofs.Ordered.{place-IsFound, found_of_place}
@@ -20,11 +20,10 @@ use Rattle.table_model.specs.Stores.{Row, Store, Kept, Shelf, map_kept, map_shel
 use Rattle.table_model.specs.Soundness.{numbers_of, kept_numbers, value_at, values_at, ranks_at, column_at, AllWide, SoundColumn, Sound}
 use Rattle.table_model.specs.Standing.{Stands}
 use Rattle.table_model.specs.Wholeness.{AllFull, WholeColumn, Whole}
-use Rattle.table_model.proofs.Lists.{map-map, map-nothing}
+use Rattle.table_model.proofs.Lists.{map-map}
 use Rattle.table_model.proofs.StoreMaps.{items-map}
 use Rattle.table_model.proofs.SoundMaps.{counts-map, column_at-map}
 use Rattle.table_model.proofs.Following.{keys, length-keys}
-use Rattle.table_model.proofs.Rows.{value_in}
 use Rattle.table_model.proofs.Sealed.{rank-at, ranks-sealed}
 
 -- ---- columns

@@ -1,18 +1,18 @@
 -- The operations on a whole table by rank: it stays whole, and rows keep their items.
-use Rattle.std.proofs.Common.{◌≡◌, ℕ, suc, zero, ◌+◌, ◌*◌, ◌/◌, ◌^◌, ◌<◌, ◌≤◌, Bool, true, false, List, [], ◌∷◌, ◌++◌, length, map, get_or, replicate, refl, ap, ap₂, ◌∙◌, sym, subst, inl, inr, arith}
+use Rattle.std.proofs.Common.{◌≡◌, ℕ, suc, zero, ◌<◌, ◌≤◌, Bool, true, false, List, [], ◌∷◌, length, map, get_or, refl, ap, ap₂, ◌∙◌, sym, subst, inl, inr, arith}
 use Rattle.std.proofs.lemmas.Bool.{cases_Bool}
 use Rattle.std.specs.List.{range_with_len}
 use Rattle.std.proofs.lemmas.List.{length-map, get_or-map}
 use Rattle.std.proofs.lemmas.List.FromFn.{length-range_with_len, get_or-map-range_with_len}
 use Rattle.tree_model.specs.declared.Place.{Place}
 use Rattle.tree_model.specs.Trees.{size, height}
-use Rattle.tree_model.specs.Places.{holds, number, IsIncreasing}
-use Rattle.tree_model.specs.Items.{Item, map_item, values, one_less, change_at}
-use Rattle.tree_model.specs.Columns.{Column, empty_column, items_of, map_column, Operation, Add, Drop, Lay}
+use Rattle.tree_model.specs.Places.{holds, number}
+use Rattle.tree_model.specs.Items.{Item, map_item, one_less, change_at}
+use Rattle.tree_model.specs.Columns.{Column, items_of, map_column, Operation, Add, Drop, Lay}
 use Rattle.tree_model.specs.Sums.{origins}
 use Rattle.tree_model.specs.Carried.{is_origin}
 use Rattle.tree_model.specs.Ranks.{stays_after}
-use Rattle.tree_model.specs.Tallies.{tally, Tallied, IsOneMore, lowered, counts}
+use Rattle.tree_model.specs.Tallies.{tally, IsOneMore, counts}
 use Rattle.tree_model.proofs.Mapped.{height-map_tree}
 use Rattle.tree_model.proofs.Changes.{length-change_at}
 use Rattle.tree_model.proofs.RankLaws.{rank_after_operation, carried_of_nothing, rows_keep_item}
@@ -21,7 +21,7 @@ use Rattle.tree_model.proofs.TalliedItems.{counts-less}
 use Rattle.table_model.specs.Stores.{Row, Store, Kept, Shelf, empty_store, empty_shelf, map_shelf, shelf_of}
 use Rattle.table_model.specs.Steps.{adds, drops, only, places_by}
 use Rattle.table_model.specs.Changes.{insert_row, delete_row, delete_rows, lay_column, ranks_of, cells_of, kept_without, rows_without, insert_cells, delete_number, lay_store}
-use Rattle.table_model.specs.Soundness.{numbers_of, kept_numbers, value_at, values_at, ranks_at, column_at, AllWide, Sound, IsLow, FitsRows}
+use Rattle.table_model.specs.Soundness.{numbers_of, kept_numbers, value_at, values_at, ranks_at, column_at, AllWide, Sound, FitsRows}
 use Rattle.table_model.specs.Fitting.{AllPlaced}
 use Rattle.table_model.specs.Wholeness.{AllFull, WholeColumn, Whole, RowsStay}
 use Rattle.table_model.specs.WholeLaws.{StaysWhole, LeavesRows, WholeGives}

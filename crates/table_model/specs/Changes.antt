@@ -1,7 +1,7 @@
 -- INSERT, DELETE and an install on a table: by rank on a shelf, by value on a store.
 use Rattle.std.specs.Prelude.{ℕ, suc, Bool, true, false, ◌==◌, List, [], ◌∷◌, ◌++◌, map}
 use Rattle.tree_model.specs.declared.Place.{Place}
-use Rattle.tree_model.specs.Columns.{Column, Operation, Lay}
+use Rattle.tree_model.specs.Columns.{Operation, Lay}
 use Rattle.table_model.specs.Stores.{Row, Store, Kept, Shelf, ranks_by}
 use Rattle.table_model.specs.Steps.{operate, operated, adds, drops, only, rank_in, places_by}
 

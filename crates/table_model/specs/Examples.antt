@@ -1,11 +1,10 @@
 -- Worked examples: the statements that this crate's functions without a body compute.
-use Rattle.std.specs.Prelude.{◌≡◌, ℕ, suc, Bool, true, false, List, [], ◌∷◌}
-use Rattle.tree_model.specs.declared.Place.{Place}
-use Rattle.tree_model.specs.declared.Place.TheVariants.{Found, Gap}
-use Rattle.tree_model.specs.Trees.{Tree, leaf, node, balanced}
-use Rattle.tree_model.specs.Items.{Item, new_item}
+use Rattle.std.specs.Prelude.{◌≡◌, ℕ, Bool, true, false, List, [], ◌∷◌}
+use Rattle.tree_model.specs.declared.Place.TheVariants.{Gap}
+use Rattle.tree_model.specs.Trees.{leaf, node, balanced}
+use Rattle.tree_model.specs.Items.{Item}
 use Rattle.tree_model.specs.Columns.{Column, empty_column, Operation, Drop}
-use Rattle.table_model.specs.Stores.{Row, Store, Kept, Shelf, empty_store, empty_shelf, shelf_of}
+use Rattle.table_model.specs.Stores.{Store, Kept, Shelf, empty_store, shelf_of}
 use Rattle.table_model.specs.Changes.{insert_row, delete_row, delete_rows, delete_steps, insert_cells, delete_number, delete_numbers, lay_store}
 
 -- cells that are values

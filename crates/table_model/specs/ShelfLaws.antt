@@ -1,6 +1,6 @@
 -- A table by value and its table by rank are one, and nothing by rank looks at bodies: the statements of laws that this crate's
 -- functions without a body prove.
-use Rattle.std.specs.Prelude.{◌≡◌, ℕ, Bool, List, [], ◌∷◌, map}
+use Rattle.std.specs.Prelude.{◌≡◌, ℕ, Bool, List, map}
 use Rattle.tree_model.specs.declared.Place.{Place}
 use Rattle.table_model.specs.Stores.{Store, Shelf, empty_store, empty_shelf, map_store, map_shelf, shelf_of}
 use Rattle.table_model.specs.Steps.{places_by, map_steps}

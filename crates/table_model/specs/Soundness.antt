@@ -3,7 +3,7 @@ use Rattle.std.specs.Prelude.{◌≡◌, ℕ, ◌+◌, ◌/◌, ◌^◌, ◌<◌
 use Rattle.tree_model.specs.declared.Place.TheVariants.{Found}
 use Rattle.tree_model.specs.Trees.{size, height}
 use Rattle.tree_model.specs.Places.{place, below, IsIncreasing}
-use Rattle.tree_model.specs.Items.{Item, values}
+use Rattle.tree_model.specs.Items.{values}
 use Rattle.tree_model.specs.Columns.{Column, empty_column, items_of}
 use Rattle.tree_model.specs.ColumnLaws.{IsKept, SuitsMode}
 use Rattle.tree_model.specs.Tallies.{counts, TalliedItems}

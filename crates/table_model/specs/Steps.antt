@@ -4,7 +4,7 @@ use Rattle.tree_model.specs.declared.Place.{Place}
 use Rattle.tree_model.specs.declared.Place.TheVariants.{Found, Gap}
 use Rattle.tree_model.specs.Places.{place}
 use Rattle.tree_model.specs.Items.{values}
-use Rattle.tree_model.specs.Columns.{Column, items_of, Operation, Add, Drop, Lay, apply_all, map_operation}
+use Rattle.tree_model.specs.Columns.{Column, items_of, Operation, Add, Drop, apply_all, map_operation}
 use Rattle.tree_model.specs.Sums.{origins}
 use Rattle.tree_model.specs.Carried.{carried}
 use Rattle.table_model.specs.Stores.{Kept, Shelf}

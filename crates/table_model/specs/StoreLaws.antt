@@ -1,5 +1,5 @@
 -- What the operations on a table by value keep: the statements of laws that this crate's functions without a body prove.
-use Rattle.std.specs.Prelude.{◌≡◌, ℕ, suc, ◌<◌, ◌≤◌, Bool, List, length, get_or}
+use Rattle.std.specs.Prelude.{◌≡◌, ℕ, ◌<◌, Bool, List, length, get_or}
 use Rattle.table_model.specs.Stores.{Store, empty_store, ranks_by}
 use Rattle.table_model.specs.Steps.{places_by}
 use Rattle.table_model.specs.Changes.{insert_cells, delete_number, delete_numbers, lay_store}

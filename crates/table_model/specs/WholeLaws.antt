@@ -1,9 +1,9 @@
 -- What the operations on a table by rank keep: the statements of laws that this crate's functions without a body prove.
-use Rattle.std.specs.Prelude.{◌≡◌, ℕ, ◌<◌, ◌≤◌, Bool, true, List, [], ◌∷◌, length, get_or}
+use Rattle.std.specs.Prelude.{◌≡◌, ℕ, ◌<◌, Bool, true, List, [], ◌∷◌, length}
 use Rattle.tree_model.specs.declared.Place.{Place}
 use Rattle.tree_model.specs.Trees.{size}
 use Rattle.tree_model.specs.Places.{holds}
-use Rattle.tree_model.specs.Columns.{Operation, Lay}
+use Rattle.tree_model.specs.Columns.{Lay}
 use Rattle.table_model.specs.Stores.{Store, Shelf, empty_shelf, map_shelf, shelf_of}
 use Rattle.table_model.specs.Steps.{adds, drops, only}
 use Rattle.table_model.specs.Changes.{insert_row, delete_row, delete_rows, lay_column, ranks_of, kept_without}

@@ -16,3 +16,4 @@ pub mod SealedTables
 pub mod WholeMaps
 pub mod Spread
 pub mod WholeOps
+pub mod Deleted

@@ -1,5 +1,6 @@
 -- What the operations on a table by value keep: the statements of laws that this crate's functions without a body prove.
-use Rattle.std.specs.Prelude.{◌≡◌, ℕ, ◌<◌, Bool, List, length, get_or}
+use Rattle.std.specs.Prelude.{◌≡◌, ℕ, ◌<◌, Bool, not, List, length, get_or, filter}
+use Rattle.tree_model.specs.Places.{holds}
 use Rattle.table_model.specs.Stores.{Store, empty_store, ranks_by}
 use Rattle.table_model.specs.Steps.{places_by}
 use Rattle.table_model.specs.Changes.{insert_cells, delete_number, delete_numbers, lay_store}
@@ -19,6 +20,14 @@ pub record StaysSound (B : Type 0) (v : B → ℕ) (same_time : Bool) (limit : �
 
 abbrev pub OperationsKeepSound : Type 0 → Type 0
 OperationsKeepSound B = (v : B → ℕ) (same_time : Bool) (limit : ℕ) (t : Store B) → Sound B v same_time limit t → StaysSound B v same_time limit t
+
+-- after a DELETE the rows are those of other numbers, in their order, and no number is used again
+pub record DeletesThese (B : Type 0) (v : B → ℕ) (same_time : Bool) (numbers : List ℕ) (t : Store B) : Type 0 where
+  pub rows : (delete_numbers same_time v numbers t).rows ≡ filter (λ row. not (holds row.number numbers)) t.rows
+  pub next : (delete_numbers same_time v numbers t).next ≡ t.next
+
+abbrev pub DeleteTakesRows : Type 0 → Type 0
+DeleteTakesRows B = (v : B → ℕ) (same_time : Bool) (limit : ℕ) (numbers : List ℕ) (t : Store B) → Sound B v same_time limit t → DeletesThese B v same_time numbers t
 
 -- ---- what follows
 

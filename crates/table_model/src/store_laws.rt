@@ -1,5 +1,5 @@
 //! Laws of sound tables, and of tables that differ by balancing alone. Each function is empty: its contract is the law.
-ghost use Rattle.table_model.specs.StoreLaws.{EmptyIsSound, IsEquivalence, OperationsKeepSound, RowsOwnItems, SameBehaves, SoundFitsRows};
+ghost use Rattle.table_model.specs.StoreLaws.{DeleteTakesRows, EmptyIsSound, IsEquivalence, OperationsKeepSound, RowsOwnItems, SameBehaves, SoundFitsRows};
 
 /// A table without rows is sound.
 pub fn empty_is_sound<B>()
@@ -9,6 +9,11 @@ pub fn empty_is_sound<B>()
 /// INSERT under fewer rows than the limit, DELETE of one row or many and an install leave a sound table sound.
 pub fn operations_keep_sound<B>()
     ensures { OperationsKeepSound B }
+{}
+
+/// After a DELETE a sound table has the rows of the other numbers in their order, and the next number is as it was.
+pub fn delete_takes_rows<B>()
+    ensures { DeleteTakesRows B }
 {}
 
 /// A column of a sound table has at most half as many items again as the limit has rows: 98,304 for 65,536 rows, and

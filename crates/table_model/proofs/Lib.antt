@@ -17,3 +17,4 @@ pub mod WholeMaps
 pub mod Spread
 pub mod WholeOps
 pub mod Deleted
+pub mod WholeTables

@@ -31,6 +31,9 @@ BodiesReadAsItems B C = (seal : C → B) (v : C → ℕ) (same_time : Bool) (lim
 
 -- ---- several tables
 
+abbrev pub EmptiesStand : Type 0 → Type 0 → Type 0
+EmptiesStand B C = (seal : C → B) (v : C → ℕ) (same_time : Bool) (limit : ℕ) (widths : List ℕ) → AllStand B C seal v same_time limit (map (empty_shelf B) widths) (map (empty_store C) widths)
+
 -- operations, placed by tables of which the present ones differ by balancing alone and sealed, fit the shelves, which stand afterwards for
 -- the stores after the operations by value
 pub record OpsStand (B C : Type 0) (seal : C → B) (v : C → ℕ) (same_time : Bool) (limit : ℕ) (ops : List (Op C)) (placed : List (RankOp B)) (shelves : List (Shelf B)) (stores : List (Store C)) : Type 0 where

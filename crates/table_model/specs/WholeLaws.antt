@@ -1,5 +1,5 @@
 -- What the operations on a table by rank keep: the statements of laws that this crate's functions without a body prove.
-use Rattle.std.specs.Prelude.{◌≡◌, ℕ, ◌<◌, Bool, true, List, [], ◌∷◌, length}
+use Rattle.std.specs.Prelude.{◌≡◌, ℕ, ◌<◌, Bool, true, List, [], ◌∷◌, length, map}
 use Rattle.tree_model.specs.declared.Place.{Place}
 use Rattle.tree_model.specs.Trees.{size}
 use Rattle.tree_model.specs.Places.{holds}
@@ -8,9 +8,10 @@ use Rattle.table_model.specs.Stores.{Store, Shelf, empty_shelf, map_shelf, shelf
 use Rattle.table_model.specs.Steps.{adds, drops, only}
 use Rattle.table_model.specs.Changes.{insert_row, delete_row, delete_rows, lay_column, ranks_of, kept_without}
 use Rattle.table_model.specs.Soundness.{ranks_at, column_at, Sound, FitsRows}
-use Rattle.table_model.specs.Fitting.{AllPlaced}
+use Rattle.table_model.specs.Operations.{RankOp, rank_ops_on, rank_install_on}
+use Rattle.table_model.specs.Fitting.{AllPlaced, AllFitAt}
 use Rattle.table_model.specs.Standing.{Stands}
-use Rattle.table_model.specs.Wholeness.{Whole, RowsStay}
+use Rattle.table_model.specs.Wholeness.{Whole, RowsStay, AllWhole}
 
 abbrev pub EmptyIsWhole : Type 0 → Type 0
 EmptyIsWhole B = (same_time : Bool) (limit columns : ℕ) → Whole B same_time limit (empty_shelf B columns)
@@ -51,3 +52,12 @@ WholeIsBlind B C = (f : B → C) (same_time : Bool) (limit : ℕ) (s : Shelf B) 
 
 abbrev pub StandsIsWhole : Type 0 → Type 0 → Type 0
 StandsIsWhole B C = (seal : C → B) (v : C → ℕ) (same_time : Bool) (limit : ℕ) (table : Shelf B) (t : Store C) → Stands B C seal v same_time limit table t → Whole B same_time limit table
+
+-- several tables: those without rows are whole, and operations that fit and installs leave whole tables whole
+pub record KeepsAllWhole (B : Type 0) (same_time : Bool) (limit : ℕ) : Type 0 where
+  pub empty : (widths : List ℕ) → AllWhole same_time limit (map (empty_shelf B) widths)
+  pub ops : (ops : List (RankOp B)) (shelves : List (Shelf B)) → AllWhole same_time limit shelves → AllFitAt same_time limit ops shelves → AllWhole same_time limit (rank_ops_on same_time ops shelves)
+  pub install : (table column : ℕ) (shelves : List (Shelf B)) → AllWhole same_time limit shelves → AllWhole same_time limit (rank_install_on same_time table column shelves)
+
+abbrev pub TablesStayWhole : Type 0 → Type 0
+TablesStayWhole B = (same_time : Bool) (limit : ℕ) → KeepsAllWhole B same_time limit

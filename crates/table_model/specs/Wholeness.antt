@@ -34,3 +34,8 @@ pub record Whole (B : Type 0) (same_time : Bool) (limit : ℕ) (s : Shelf B) : T
 -- operations leave the items of these rows: each stays, so that `carried` tells its rank after them
 unfoldable pub RowsStay : {B : Type 0} → Bool → List (List (Operation B)) → List (Column B) → List (Kept B) → Type 0
 RowsStay same_time steps cs kept = (column rank : ℕ) → column < length cs → holds rank (ranks_at column kept) ≡ true → is_origin rank (origins same_time (get_or steps column []) (column_at cs column)) ≡ true
+
+-- several tables
+unfoldable pub AllWhole : {B : Type 0} → Bool → ℕ → List (Shelf B) → Type 0
+AllWhole same_time limit [] = Unit {0}
+AllWhole {B} same_time limit (s ∷ shelves) = Whole B same_time limit s × AllWhole same_time limit shelves

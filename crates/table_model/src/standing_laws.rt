@@ -1,5 +1,5 @@
 //! Laws of a table by rank that stands for a table by value. Each function is empty: its contract is the law.
-ghost use Rattle.table_model.specs.StandingLaws.{BodiesReadAsItems, EmptyStands, InstallStands, OperationsKeepStanding, OperationsStand};
+ghost use Rattle.table_model.specs.StandingLaws.{BodiesReadAsItems, EmptiesStand, EmptyStands, InstallStands, OperationsKeepStanding, OperationsStand};
 
 /// A table without rows by rank stands for one by value.
 pub fn empty_stands<B, C>()
@@ -15,6 +15,11 @@ pub fn operations_keep_standing<B, C>()
 /// Where sealed cells read as their values, each row's body reads as the item of the row's rank does.
 pub fn bodies_read_as_items<B, C>()
     ensures { BodiesReadAsItems B C }
+{}
+
+/// Several tables without rows by rank stand for such tables by value.
+pub fn empties_stand<B, C>()
+    ensures { EmptiesStand B C }
 {}
 
 /// Operations by value that fit some tables, each at the places that it has there and sealed, fit the shelves of tables that

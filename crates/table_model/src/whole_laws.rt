@@ -1,5 +1,5 @@
 //! Laws of tables by rank alone, whatever their bodies are. Each function is empty: its contract is the law.
-ghost use Rattle.table_model.specs.WholeLaws.{EmptyIsWhole, OperationsKeepWhole, OperationsLeaveRows, SoundIsWhole, StandsIsWhole, WholeFitsRows, WholeIsBlind};
+ghost use Rattle.table_model.specs.WholeLaws.{EmptyIsWhole, OperationsKeepWhole, OperationsLeaveRows, SoundIsWhole, StandsIsWhole, TablesStayWhole, WholeFitsRows, WholeIsBlind};
 
 /// A table without rows is whole.
 pub fn empty_is_whole<B>()
@@ -35,4 +35,9 @@ pub fn whole_is_blind<B, C>()
 /// A table by rank that stands for a table by value is whole.
 pub fn stands_is_whole<B, C>()
     ensures { StandsIsWhole B C }
+{}
+
+/// Several tables without rows are whole; operations that fit, and installs, leave several whole tables whole.
+pub fn tables_stay_whole<B>()
+    ensures { TablesStayWhole B }
 {}

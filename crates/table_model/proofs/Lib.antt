@@ -13,8 +13,8 @@ pub mod Sealed
 pub mod Ops
 pub mod ByColumns
 pub mod SealedTables
-pub mod WholeMaps
+pub mod ShelfSoundMaps
 pub mod Spread
-pub mod WholeOps
+pub mod ShelfSoundOps
 pub mod Deleted
-pub mod WholeTables
+pub mod ShelfTables

@@ -20,7 +20,7 @@ use Rattle.table_model.proofs.Maps.{shelves_are_blind}
 use Rattle.table_model.proofs.StoreMaps.{places_by-map, stores_map}
 use Rattle.table_model.proofs.Sound.{insert-sound, deletes-sound, lay-sound}
 use Rattle.table_model.proofs.Bridge.{shelf_of-insert, shelf_of-deletes, shelf_of-lay}
-use Rattle.table_model.proofs.SameTables.{places_by-same, same_behaves, is_equivalence}
+use Rattle.table_model.proofs.SameTables.{places_by-same, same_behaves, same_is_equivalence}
 use Rattle.table_model.proofs.Lists.{map-map}
 use Rattle.table_model.proofs.Following.{keys, length-keys}
 
@@ -298,13 +298,13 @@ lays-sound v same_time limit column (t ∷ stores) (suc table) sound = (sound.0,
 pub same-all : {B : Type 0} (stores : List (Store B)) → AllSame stores stores
 unfolding AllSame
 same-all [] = tt
-same-all {B} (t ∷ stores) = ((is_equivalence B).reflexive t, same-all stores)
+same-all {B} (t ∷ stores) = ((same_is_equivalence B).reflexive t, same-all stores)
 
 lays-same : {B : Type 0} (same_time : Bool) (column : ℕ) (stores : List (Store B)) (table : ℕ) → AllSame (change_at (lay_store same_time column) stores table) stores
 unfolding change_at AllSame
 lays-same same_time column [] table = tt
-lays-same {B} same_time column (t ∷ stores) zero = ((is_equivalence B).laid same_time column t, same-all stores)
-lays-same {B} same_time column (t ∷ stores) (suc table) = ((is_equivalence B).reflexive t, lays-same same_time column stores table)
+lays-same {B} same_time column (t ∷ stores) zero = ((same_is_equivalence B).laid same_time column t, same-all stores)
+lays-same {B} same_time column (t ∷ stores) (suc table) = ((same_is_equivalence B).reflexive t, lays-same same_time column stores table)
 
 lays-shelves : {B : Type 0} (v : B → ℕ) (same_time : Bool) (limit column : ℕ) (stores : List (Store B)) (table : ℕ) → AllSound v same_time limit stores → map (shelf_of v) (change_at (lay_store same_time column) stores table) ≡ change_at (lay_column same_time column) (map (shelf_of v) stores) table
 unfolding change_at AllSound

@@ -14,7 +14,7 @@ use Rattle.table_model.specs.Stores.{Row, Store, ranks_by}
 use Rattle.table_model.specs.Steps.{operate, adds, drops, only, places_by}
 use Rattle.table_model.specs.Changes.{cells_of, rows_without, insert_cells, delete_number, delete_numbers, lay_store}
 use Rattle.table_model.specs.Soundness.{column_at, Sound, Same}
-use Rattle.table_model.specs.StoreLaws.{AreSame, IsEquivalence}
+use Rattle.table_model.specs.StoreLaws.{AreSame, SameIsEquivalence}
 use Rattle.table_model.proofs.Sound.{delete-sound}
 
 -- ---- one column
@@ -142,8 +142,8 @@ laid-same : {B : Type 0} (same_time : Bool) (column : ℕ) (t : Store B) → Sam
 unfolding lay_store
 laid-same same_time column t = record { rows = refl; next = refl; items = items-laid same_time column t.columns }
 
-pub is_equivalence : (B : Type 0) → IsEquivalence B
-is_equivalence B =
+pub same_is_equivalence : (B : Type 0) → SameIsEquivalence B
+same_is_equivalence B =
     record {
       laid = laid-same;
       reflexive = λ t. record { rows = refl; next = refl; items = refl };

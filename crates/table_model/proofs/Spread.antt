@@ -1,4 +1,4 @@
--- A whole table by rank as a table by value, with the value 2 * rank + 1 for an item: then each place has a value, its number.
+-- A sound table by rank as a table by value, with the value 2 * rank + 1 for an item: then each place has a value, its number.
 use Rattle.std.proofs.Common.{◌≡◌, ℕ, suc, zero, ◌+◌, ◌*◌, ◌<◌, Bool, true, false, List, [], ◌∷◌, ◌++◌, length, map, get_or, Option, Some, None, refl, ap, ap₂, ◌∙◌, sym, subst, inl, inr, arith}
 use Rattle.std.specs.List.{range_with_len}
 use Rattle.std.proofs.lemmas.List.{length-map, get_or-map}
@@ -21,12 +21,12 @@ use Rattle.table_model.specs.Stores.{Row, Store, Kept, Shelf, map_kept, map_shel
 use Rattle.table_model.specs.Steps.{places_by}
 use Rattle.table_model.specs.Soundness.{numbers_of, kept_numbers, value_at, values_at, ranks_at, column_at, AllWide, SoundColumn, Sound}
 use Rattle.table_model.specs.Fitting.{AllPlaced}
-use Rattle.table_model.specs.Wholeness.{AllFull, WholeColumn, Whole}
+use Rattle.table_model.specs.ShelfSoundness.{AllFull, SoundRanks, SoundShelf}
 use Rattle.table_model.proofs.Lists.{map-map, map-nothing}
 use Rattle.table_model.proofs.StoreMaps.{values-map_column, map_column-twice}
 use Rattle.table_model.proofs.Following.{keys}
 use Rattle.table_model.proofs.Rows.{held-cons}
-use Rattle.table_model.proofs.WholeMaps.{column-whole, column-back}
+use Rattle.table_model.proofs.ShelfSoundMaps.{column-ranks, column-back}
 
 abbrev pub itself : ℕ → ℕ
 itself n = n
@@ -104,10 +104,10 @@ size-nothing {B} c = size-map_tree (map_item (nothing {B = B})) c.tree
 size-spread : {B : Type 0} (c : Column B) → size (spread_column c).tree ≡ size c.tree
 size-spread c = sym (size-nothing (spread_column c)) ∙ ap (λ (d : Column ℕ). size d.tree) (column-alike c) ∙ size-nothing c
 
-sound-spread : {B : Type 0} (same_time : Bool) (c : Column B) (ranks : List ℕ) → WholeColumn B same_time c ranks → SoundColumn ℕ itself same_time (spread_column c) (map spread ranks)
+sound-spread : {B : Type 0} (same_time : Bool) (c : Column B) (ranks : List ℕ) → SoundRanks B same_time c ranks → SoundColumn ℕ itself same_time (spread_column c) (map spread ranks)
 sound-spread {B} same_time c ranks w =
     let oc = spread_column c in
-    let there = column-back (nothing {B = ℕ}) same_time oc ranks (subst (λ (d : Column ℕ). WholeColumn ℕ same_time d ranks) (sym (column-alike c)) (column-whole (nothing {B = B}) same_time c ranks w)) in
+    let there = column-back (nothing {B = ℕ}) same_time oc ranks (subst (λ (d : Column ℕ). SoundRanks ℕ same_time d ranks) (sym (column-alike c)) (column-ranks (nothing {B = B}) same_time c ranks w)) in
     let few = size-spread c in
     record {
       tallied = subst (λ (xs : List ℕ). Tallied xs (counts (items_of oc)) (map spread ranks)) (sym (keys-spread c))
@@ -148,7 +148,7 @@ numbers-spread : {B : Type 0} (kept : List (Kept B)) → numbers_of (map spread_
 unfolding numbers_of kept_numbers spread_row
 numbers-spread {B} kept = map-map (λ (row : Row ℕ). row.number) spread_row kept
 
-pub spread-sound : {B : Type 0} (same_time : Bool) (limit : ℕ) (s : Shelf B) → Whole B same_time limit s → Sound ℕ itself same_time limit (spread_store s)
+pub spread-sound : {B : Type 0} (same_time : Bool) (limit : ℕ) (s : Shelf B) → SoundShelf B same_time limit s → Sound ℕ itself same_time limit (spread_store s)
 unfolding spread_store
 spread-sound {B} same_time limit s w =
     let many = length-map s.columns (spread_column {B = B}) in
@@ -209,15 +209,15 @@ held-range first (suc n) rank held =
     ]
 
 -- each row's rank is an item's
-pub whole-within : {B : Type 0} (same_time : Bool) (limit : ℕ) (s : Shelf B) → Whole B same_time limit s → (i rank : ℕ) → i < length s.columns → holds rank (ranks_at i s.kept) ≡ true → rank < size (column_at s.columns i).tree
-whole-within same_time limit s w i rank h held =
+pub shelf-within : {B : Type 0} (same_time : Bool) (limit : ℕ) (s : Shelf B) → SoundShelf B same_time limit s → (i rank : ℕ) → i < length s.columns → holds rank (ranks_at i s.kept) ≡ true → rank < size (column_at s.columns i).tree
+shelf-within same_time limit s w i rank h held =
     let in_range = held-range 0 (size (column_at s.columns i).tree) rank ((w.columns i h).tallied.held rank held) in omega (arith, in_range)
 
-pub alike : {B : Type 0} (same_time : Bool) (limit : ℕ) (s : Shelf B) → Whole B same_time limit s → map_shelf (nothing {B = ℕ}) (shelf_of itself (spread_store s)) ≡ map_shelf (nothing {B = B}) s
+pub alike : {B : Type 0} (same_time : Bool) (limit : ℕ) (s : Shelf B) → SoundShelf B same_time limit s → map_shelf (nothing {B = ℕ}) (shelf_of itself (spread_store s)) ≡ map_shelf (nothing {B = B}) s
 unfolding map_shelf shelf_of spread_store
 alike same_time limit s w =
     ap₂ (λ (kept : List (Kept ℕ)) (columns : List (Column ℕ)). let r : Shelf ℕ = record { kept = kept; next = s.next; columns = columns } in r)
-    (kept-alike s.columns s.kept w.full (whole-within same_time limit s w)) (columns-alike s.columns)
+    (kept-alike s.columns s.kept w.full (shelf-within same_time limit s w)) (columns-alike s.columns)
 
 -- ---- places are places of values
 

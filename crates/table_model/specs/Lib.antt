@@ -11,5 +11,5 @@ pub mod StoreLaws
 pub mod OperationLaws
 pub mod StandingLaws
 pub mod StepLaws
-pub mod Wholeness
-pub mod WholeLaws
+pub mod ShelfSoundness
+pub mod RankLaws

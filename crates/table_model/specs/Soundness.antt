@@ -38,8 +38,8 @@ unfoldable pub AllWide : {B : Type 0} → ℕ → List (Row B) → Type 0
 AllWide width [] = Unit {0}
 AllWide width (row ∷ rows) = (length row.cells ≡ width) × AllWide width rows
 
--- a column beside the values that the rows have in it: the values of the items increase and are those of the rows, each item's count is
--- the number of rows with its value, no item is too deep, enough items are live, and it is as the mode leaves it
+-- a column beside the values that the rows have in it: the values of the items increase, each row's value is one of them, each item's
+-- count is the number of rows with its value, no item is too deep, enough items are live, and it is as the mode leaves it
 pub record SoundColumn (B : Type 0) (v : B → ℕ) (same_time : Bool) (c : Column B) (rows : List ℕ) : Type 0 where
   pub tallied : TalliedItems v (items_of c) rows
   pub kept : IsKept B c

@@ -53,7 +53,7 @@ abbrev pub SameBehaves : Type 0 → Type 0
 SameBehaves B = (v : B → ℕ) (same_time : Bool) (limit : ℕ) (t u : Store B) → Sound B v same_time limit t → Sound B v same_time limit u → Same B t u → AreSame B v same_time t u
 
 -- an install leaves the same table, and to be the same is an equivalence
-pub record IsEquivalence (B : Type 0) : Type 0 where
+pub record SameIsEquivalence (B : Type 0) : Type 0 where
   pub laid : (same_time : Bool) (column : ℕ) (t : Store B) → Same B (lay_store same_time column t) t
   pub reflexive : (t : Store B) → Same B t t
   pub symmetric : (t u : Store B) → Same B t u → Same B u t

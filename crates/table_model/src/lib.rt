@@ -7,4 +7,4 @@ pub mod shelf_laws;
 pub mod standing_laws;
 pub mod step_laws;
 pub mod store_laws;
-pub mod whole_laws;
+pub mod rank_laws;

@@ -1,5 +1,5 @@
 //! Laws of sound tables, and of tables that differ by balancing alone. Each function is empty: its contract is the law.
-ghost use Rattle.table_model.specs.StoreLaws.{DeleteTakesRows, EmptyIsSound, IsEquivalence, OperationsKeepSound, RowsOwnItems, SameBehaves, SoundFitsRows};
+ghost use Rattle.table_model.specs.StoreLaws.{DeleteTakesRows, EmptyIsSound, SameIsEquivalence, OperationsKeepSound, RowsOwnItems, SameBehaves, SoundFitsRows};
 
 /// A table without rows is sound.
 pub fn empty_is_sound<B>()
@@ -34,6 +34,6 @@ pub fn same_behaves<B>()
 {}
 
 /// An install leaves the same table but for balance, and to be the same but for balance is an equivalence.
-pub fn is_equivalence<B>()
-    ensures { IsEquivalence B }
+pub fn same_is_equivalence<B>()
+    ensures { SameIsEquivalence B }
 {}

@@ -1,4 +1,4 @@
--- A table by rank is whole with any bodies or with none, and that of a sound table is whole.
+-- A table by rank is sound with any bodies or with none, and that of a sound table is sound.
 use Rattle.std.proofs.Common.{◌≡◌, ℕ, suc, zero, ◌+◌, ◌<◌, ◌≤◌, Bool, true, false, List, [], ◌∷◌, ◌++◌, length, map, get_or, refl, ap, ap₂, ◌∙◌, sym, subst, arith}
 use Rattle.std.specs.List.{range_with_len}
 use Rattle.std.proofs.lemmas.List.{length-map}
@@ -19,7 +19,7 @@ use Rattle.tree_model.proofs.TalliedRows.{tallied_mapped}
 use Rattle.table_model.specs.Stores.{Row, Store, Kept, Shelf, map_kept, map_shelf, ranks_by, kept_of, shelf_of}
 use Rattle.table_model.specs.Soundness.{numbers_of, kept_numbers, value_at, values_at, ranks_at, column_at, AllWide, SoundColumn, Sound}
 use Rattle.table_model.specs.Standing.{Stands}
-use Rattle.table_model.specs.Wholeness.{AllFull, WholeColumn, Whole}
+use Rattle.table_model.specs.ShelfSoundness.{AllFull, SoundRanks, SoundShelf}
 use Rattle.table_model.proofs.Lists.{map-map}
 use Rattle.table_model.proofs.StoreMaps.{items-map}
 use Rattle.table_model.proofs.SoundMaps.{counts-map, column_at-map}
@@ -55,8 +55,8 @@ kept-back f c k =
       fits = omega (arith, k.fits, many);
     }
 
-pub column-whole : {B C : Type 0} (f : B → C) (same_time : Bool) (c : Column B) (ranks : List ℕ) → WholeColumn B same_time c ranks → WholeColumn C same_time (map_column f c) ranks
-column-whole f same_time c ranks w =
+pub column-ranks : {B C : Type 0} (f : B → C) (same_time : Bool) (c : Column B) (ranks : List ℕ) → SoundRanks B same_time c ranks → SoundRanks C same_time (map_column f c) ranks
+column-ranks f same_time c ranks w =
     record {
       tallied = subst (λ (n : ℕ). Tallied (range_with_len 0 n) (counts (items_of (map_column f c))) ranks) (sym (column-size f c))
           (subst (λ (ns : List ℕ). Tallied (range_with_len 0 (size c.tree)) ns ranks) (sym (column-counts f c)) w.tallied);
@@ -64,7 +64,7 @@ column-whole f same_time c ranks w =
       suits = SuitsMode-map f same_time c w.suits;
     }
 
-pub column-back : {B C : Type 0} (f : B → C) (same_time : Bool) (c : Column B) (ranks : List ℕ) → WholeColumn C same_time (map_column f c) ranks → WholeColumn B same_time c ranks
+pub column-back : {B C : Type 0} (f : B → C) (same_time : Bool) (c : Column B) (ranks : List ℕ) → SoundRanks C same_time (map_column f c) ranks → SoundRanks B same_time c ranks
 column-back f same_time c ranks w =
     record {
       tallied = subst (λ (n : ℕ). Tallied (range_with_len 0 n) (counts (items_of c)) ranks) (column-size f c)
@@ -89,23 +89,23 @@ unfolding AllFull map_kept
 full-back f width [] full = tt
 full-back f width (row ∷ kept) full = (sym (length-map row.bodies f) ∙ full.0, full.1, full-back f width kept full.2)
 
-pub whole_is_blind : {B C : Type 0} (f : B → C) (same_time : Bool) (limit : ℕ) (s : Shelf B) → Whole B same_time limit s → Whole C same_time limit (map_shelf f s)
+pub shelf_sound_is_blind : {B C : Type 0} (f : B → C) (same_time : Bool) (limit : ℕ) (s : Shelf B) → SoundShelf B same_time limit s → SoundShelf C same_time limit (map_shelf f s)
 unfolding map_shelf
-whole_is_blind {B} {C} f same_time limit s w =
+shelf_sound_is_blind {B} {C} f same_time limit s w =
     let many = length-map s.columns (map_column f) in
     record {
       few = omega (arith, w.few, length-map s.kept (map_kept f));
       numbered = subst (λ (ns : List ℕ). IsIncreasing (ns ++ s.next ∷ [])) (sym (kept_numbers-sealed f s.kept)) w.numbered;
       full = subst (λ (n : ℕ). AllFull n (map (map_kept f) s.kept)) (sym many) (full-map f (length s.columns) s.kept w.full);
       columns = λ i h.
-          subst (λ (c : Column C). WholeColumn C same_time c (ranks_at i (map (map_kept f) s.kept))) (sym (column_at-map f s.columns i))
-          (subst (WholeColumn C same_time (map_column f (column_at s.columns i))) (sym (ranks-sealed f i s.kept))
-          (column-whole f same_time (column_at s.columns i) (ranks_at i s.kept) (w.columns i (omega (arith, h, many)))));
+          subst (λ (c : Column C). SoundRanks C same_time c (ranks_at i (map (map_kept f) s.kept))) (sym (column_at-map f s.columns i))
+          (subst (SoundRanks C same_time (map_column f (column_at s.columns i))) (sym (ranks-sealed f i s.kept))
+          (column-ranks f same_time (column_at s.columns i) (ranks_at i s.kept) (w.columns i (omega (arith, h, many)))));
     }
 
-pub whole-back : {B C : Type 0} (f : B → C) (same_time : Bool) (limit : ℕ) (s : Shelf B) → Whole C same_time limit (map_shelf f s) → Whole B same_time limit s
+pub shelf-back : {B C : Type 0} (f : B → C) (same_time : Bool) (limit : ℕ) (s : Shelf B) → SoundShelf C same_time limit (map_shelf f s) → SoundShelf B same_time limit s
 unfolding map_shelf
-whole-back {B} {C} f same_time limit s w =
+shelf-back {B} {C} f same_time limit s w =
     let many = length-map s.columns (map_column f) in
     record {
       few = omega (arith, w.few, length-map s.kept (map_kept f));
@@ -113,8 +113,8 @@ whole-back {B} {C} f same_time limit s w =
       full = full-back f (length s.columns) s.kept (subst (λ (n : ℕ). AllFull n (map (map_kept f) s.kept)) many w.full);
       columns = λ i h.
           column-back f same_time (column_at s.columns i) (ranks_at i s.kept)
-          (subst (WholeColumn C same_time (map_column f (column_at s.columns i))) (ranks-sealed f i s.kept)
-          (subst (λ (c : Column C). WholeColumn C same_time c (ranks_at i (map (map_kept f) s.kept))) (column_at-map f s.columns i) (w.columns i (omega (arith, h, many)))));
+          (subst (SoundRanks C same_time (map_column f (column_at s.columns i))) (ranks-sealed f i s.kept)
+          (subst (λ (c : Column C). SoundRanks C same_time c (ranks_at i (map (map_kept f) s.kept))) (column_at-map f s.columns i) (w.columns i (omega (arith, h, many)))));
     }
 
 -- ---- the ranks of increasing keys
@@ -147,8 +147,8 @@ tallied-ranks xs ns rows t =
     subst (λ (ranks : List ℕ). Tallied ranks ns (map (λ (x : ℕ). below x xs) rows)) e
     (tallied_mapped (λ (x : ℕ). below x xs) xs ns rows t (subst IsIncreasing (sym e) (rising-range 0 (length xs))))
 
-sound_column-whole : {B : Type 0} (v : B → ℕ) (same_time : Bool) (c : Column B) (rows : List ℕ) → SoundColumn B v same_time c rows → WholeColumn B same_time c (map (λ (x : ℕ). below x (keys v c)) rows)
-sound_column-whole v same_time c rows s =
+sound_column-shelf : {B : Type 0} (v : B → ℕ) (same_time : Bool) (c : Column B) (rows : List ℕ) → SoundColumn B v same_time c rows → SoundRanks B same_time c (map (λ (x : ℕ). below x (keys v c)) rows)
+sound_column-shelf v same_time c rows s =
     record {
       tallied = subst (λ (n : ℕ). Tallied (range_with_len 0 n) (counts (items_of c)) (map (λ (x : ℕ). below x (keys v c)) rows)) (length-keys v c) (tallied-ranks (keys v c) (counts (items_of c)) rows s.tallied);
       kept = s.kept;
@@ -177,19 +177,19 @@ numbers-kept : {B : Type 0} (v : B → ℕ) (cs : List (Column B)) (rows : List 
 unfolding kept_numbers numbers_of kept_of
 numbers-kept {B} v cs rows = map-map (λ (row : Kept B). row.number) (kept_of v cs) rows
 
-pub sound_is_whole : {B : Type 0} (v : B → ℕ) (same_time : Bool) (limit : ℕ) (t : Store B) → Sound B v same_time limit t → Whole B same_time limit (shelf_of v t)
+pub shelf_of_sound : {B : Type 0} (v : B → ℕ) (same_time : Bool) (limit : ℕ) (t : Store B) → Sound B v same_time limit t → SoundShelf B same_time limit (shelf_of v t)
 unfolding shelf_of
-sound_is_whole {B} v same_time limit t s =
+shelf_of_sound {B} v same_time limit t s =
     let cs = t.columns in
     record {
       few = omega (arith, s.few, length-map t.rows (kept_of v cs));
       numbered = subst (λ (ns : List ℕ). IsIncreasing (ns ++ t.next ∷ [])) (sym (numbers-kept v cs t.rows)) s.numbered;
       full = full-kept v cs t.rows s.wide;
       columns = λ i h.
-          subst (WholeColumn B same_time (column_at cs i)) (sym (ranks_at-kept v cs i t.rows h s.wide))
-          (sound_column-whole v same_time (column_at cs i) (values_at v i t.rows) (s.columns i h));
+          subst (SoundRanks B same_time (column_at cs i)) (sym (ranks_at-kept v cs i t.rows h s.wide))
+          (sound_column-shelf v same_time (column_at cs i) (values_at v i t.rows) (s.columns i h));
     }
 
-pub stands_is_whole : {B C : Type 0} (seal : C → B) (v : C → ℕ) (same_time : Bool) (limit : ℕ) (table : Shelf B) (t : Store C) → Stands B C seal v same_time limit table t → Whole B same_time limit table
-stands_is_whole {B} seal v same_time limit table t stands =
-    subst (Whole B same_time limit) (sym stands.same) (whole_is_blind seal same_time limit (shelf_of v t) (sound_is_whole v same_time limit t stands.sound))
+pub standing_shelf_is_sound : {B C : Type 0} (seal : C → B) (v : C → ℕ) (same_time : Bool) (limit : ℕ) (table : Shelf B) (t : Store C) → Stands B C seal v same_time limit table t → SoundShelf B same_time limit table
+standing_shelf_is_sound {B} seal v same_time limit table t stands =
+    subst (SoundShelf B same_time limit) (sym stands.same) (shelf_sound_is_blind seal same_time limit (shelf_of v t) (shelf_of_sound v same_time limit t stands.sound))

@@ -18,24 +18,24 @@ AllFull width (row ∷ kept) = (length row.bodies ≡ width) × (length row.rank
 
 -- a column beside the ranks that the rows have in it: each is an item's, each item's count is the number of rows with its rank, no item
 -- is too deep, enough items are live, and it is as the mode leaves it
-pub record WholeColumn (B : Type 0) (same_time : Bool) (c : Column B) (ranks : List ℕ) : Type 0 where
+pub record SoundRanks (B : Type 0) (same_time : Bool) (c : Column B) (ranks : List ℕ) : Type 0 where
   pub tallied : Tallied (range_with_len 0 (size c.tree)) (counts (items_of c)) ranks
   pub kept : IsKept B c
   pub suits : SuitsMode same_time c
 
 -- there are at most so many rows, their numbers increase and the next one is above them, each has one body and one rank for each column,
--- and each column is whole
-pub record Whole (B : Type 0) (same_time : Bool) (limit : ℕ) (s : Shelf B) : Type 0 where
+-- and each column is sound beside the ranks
+pub record SoundShelf (B : Type 0) (same_time : Bool) (limit : ℕ) (s : Shelf B) : Type 0 where
   pub few : length s.kept ≤ limit
   pub numbered : IsIncreasing (kept_numbers s.kept ++ s.next ∷ [])
   pub full : AllFull (length s.columns) s.kept
-  pub columns : (column : ℕ) → column < length s.columns → WholeColumn B same_time (column_at s.columns column) (ranks_at column s.kept)
+  pub columns : (column : ℕ) → column < length s.columns → SoundRanks B same_time (column_at s.columns column) (ranks_at column s.kept)
 
 -- operations leave the items of these rows: each stays, so that `carried` tells its rank after them
 unfoldable pub RowsStay : {B : Type 0} → Bool → List (List (Operation B)) → List (Column B) → List (Kept B) → Type 0
 RowsStay same_time steps cs kept = (column rank : ℕ) → column < length cs → holds rank (ranks_at column kept) ≡ true → is_origin rank (origins same_time (get_or steps column []) (column_at cs column)) ≡ true
 
 -- several tables
-unfoldable pub AllWhole : {B : Type 0} → Bool → ℕ → List (Shelf B) → Type 0
-AllWhole same_time limit [] = Unit {0}
-AllWhole {B} same_time limit (s ∷ shelves) = Whole B same_time limit s × AllWhole same_time limit shelves
+unfoldable pub AllSoundShelves : {B : Type 0} → Bool → ℕ → List (Shelf B) → Type 0
+AllSoundShelves same_time limit [] = Unit {0}
+AllSoundShelves {B} same_time limit (s ∷ shelves) = SoundShelf B same_time limit s × AllSoundShelves same_time limit shelves

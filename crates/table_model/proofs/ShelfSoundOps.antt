@@ -1,4 +1,4 @@
--- The operations on a whole table by rank: it stays whole, and rows keep their items.
+-- The operations on a sound table by rank: it stays sound, and rows keep their items.
 use Rattle.std.proofs.Common.{◌≡◌, ℕ, suc, zero, ◌<◌, ◌≤◌, Bool, true, false, List, [], ◌∷◌, length, map, get_or, refl, ap, ap₂, ◌∙◌, sym, subst, inl, inr, arith}
 use Rattle.std.proofs.lemmas.Bool.{cases_Bool}
 use Rattle.std.specs.List.{range_with_len}
@@ -23,24 +23,24 @@ use Rattle.table_model.specs.Steps.{adds, drops, only, places_by}
 use Rattle.table_model.specs.Changes.{insert_row, delete_row, delete_rows, lay_column, ranks_of, cells_of, kept_without, rows_without, insert_cells, delete_number, lay_store}
 use Rattle.table_model.specs.Soundness.{numbers_of, kept_numbers, value_at, values_at, ranks_at, column_at, AllWide, Sound, FitsRows}
 use Rattle.table_model.specs.Fitting.{AllPlaced}
-use Rattle.table_model.specs.Wholeness.{AllFull, WholeColumn, Whole, RowsStay}
-use Rattle.table_model.specs.WholeLaws.{StaysWhole, LeavesRows, WholeGives}
+use Rattle.table_model.specs.ShelfSoundness.{AllFull, SoundRanks, SoundShelf, RowsStay}
+use Rattle.table_model.specs.RankLaws.{ShelfStaysSound, LeavesRows, ShelfGives}
 use Rattle.table_model.proofs.Lists.{map-map, map-nothing, without-map, beside-map}
 use Rattle.table_model.proofs.Maps.{shelves_are_blind}
 use Rattle.table_model.proofs.Numbers.{without-none, beside-none, one_without, held-later, held-new, wide-cells}
 use Rattle.table_model.proofs.Following.{length-items}
 use Rattle.table_model.proofs.Sound.{insert-sound, delete-sound, lay-sound, empty-sound, sound_fits_rows}
 use Rattle.table_model.proofs.Bridge.{shelf_of-insert, shelf_of-delete, shelf_of-lay, shelf_of-empty}
-use Rattle.table_model.proofs.WholeMaps.{sound_is_whole, whole_is_blind, whole-back, column-size, column-counts}
-use Rattle.table_model.proofs.Spread.{itself, nothing, spread_column, column-alike, spread_row, spread_store, column_at-spread, spread-sound, alike, nothings, places-spread, length-placed, whole-within}
+use Rattle.table_model.proofs.ShelfSoundMaps.{shelf_of_sound, shelf_sound_is_blind, shelf-back, column-size, column-counts}
+use Rattle.table_model.proofs.Spread.{itself, nothing, spread_column, column-alike, spread_row, spread_store, column_at-spread, spread-sound, alike, nothings, places-spread, length-placed, shelf-within}
 
--- ---- whole tables stay whole
+-- ---- sound shelves stay sound
 
--- a table by rank like that of a sound table is whole
-like-sound : {B : Type 0} (same_time : Bool) (limit : ℕ) (s : Shelf B) (t : Store ℕ) → Sound ℕ itself same_time limit t → map_shelf (nothing {B = B}) s ≡ map_shelf (nothing {B = ℕ}) (shelf_of itself t) → Whole B same_time limit s
+-- a table by rank like that of a sound table is sound
+like-sound : {B : Type 0} (same_time : Bool) (limit : ℕ) (s : Shelf B) (t : Store ℕ) → Sound ℕ itself same_time limit t → map_shelf (nothing {B = B}) s ≡ map_shelf (nothing {B = ℕ}) (shelf_of itself t) → SoundShelf B same_time limit s
 like-sound {B} same_time limit s t sound e =
-    whole-back (nothing {B = B}) same_time limit s
-    (subst (Whole ℕ same_time limit) (sym e) (whole_is_blind (nothing {B = ℕ}) same_time limit (shelf_of itself t) (sound_is_whole itself same_time limit t sound)))
+    shelf-back (nothing {B = B}) same_time limit s
+    (subst (SoundShelf ℕ same_time limit) (sym e) (shelf_sound_is_blind (nothing {B = ℕ}) same_time limit (shelf_of itself t) (shelf_of_sound itself same_time limit t sound)))
 
 places-by : {B : Type 0} (s : Shelf B) (places : List Place) → AllPlaced s.columns places → places_by itself (spread_store s).columns (map number places) ≡ places
 unfolding spread_store
@@ -54,8 +54,8 @@ rows : {B : Type 0} (s : Shelf B) → length (spread_store s).rows ≡ length s.
 unfolding spread_store
 rows s = length-map s.kept spread_row
 
-insert-whole : {B : Type 0} (same_time : Bool) (limit : ℕ) (s : Shelf B) → Whole B same_time limit s → (places : List Place) (bodies : List B) → AllPlaced s.columns places → length bodies ≡ length s.columns → length s.kept < limit → Whole B same_time limit (insert_row same_time places bodies s)
-insert-whole {B} same_time limit s w places bodies placed wide room =
+insert-shelf : {B : Type 0} (same_time : Bool) (limit : ℕ) (s : Shelf B) → SoundShelf B same_time limit s → (places : List Place) (bodies : List B) → AllPlaced s.columns places → length bodies ≡ length s.columns → length s.kept < limit → SoundShelf B same_time limit (insert_row same_time places bodies s)
+insert-shelf {B} same_time limit s w places bodies placed wide room =
     let t = spread_store s in
     let sound = spread-sound same_time limit s w in
     let cells = map number places in
@@ -69,8 +69,8 @@ insert-whole {B} same_time limit s w places bodies placed wide room =
     ∙ (shelves_are_blind (nothing {B = ℕ}) same_time (shelf_of itself t)).inserts places cells
     ∙ ap (map_shelf (nothing {B = ℕ})) (ap (λ (ps : List Place). insert_row same_time ps cells (shelf_of itself t)) (sym places_are) ∙ sym (shelf_of-insert itself same_time limit t sound cells)))
 
-delete-whole : {B : Type 0} (same_time : Bool) (limit : ℕ) (s : Shelf B) → Whole B same_time limit s → (number : ℕ) → Whole B same_time limit (delete_row same_time number s)
-delete-whole {B} same_time limit s w number =
+delete-shelf : {B : Type 0} (same_time : Bool) (limit : ℕ) (s : Shelf B) → SoundShelf B same_time limit s → (number : ℕ) → SoundShelf B same_time limit (delete_row same_time number s)
+delete-shelf {B} same_time limit s w number =
     let t = spread_store s in
     let sound = spread-sound same_time limit s w in
     like-sound same_time limit (delete_row same_time number s) (delete_number same_time itself number t) (delete-sound itself same_time limit t sound number)
@@ -79,13 +79,13 @@ delete-whole {B} same_time limit s w number =
     ∙ (shelves_are_blind (nothing {B = ℕ}) same_time (shelf_of itself t)).deletes number
     ∙ ap (map_shelf (nothing {B = ℕ})) (sym (shelf_of-delete itself same_time limit t sound number)))
 
-deletes-whole : {B : Type 0} (same_time : Bool) (limit : ℕ) (s : Shelf B) → Whole B same_time limit s → (numbers : List ℕ) → Whole B same_time limit (delete_rows same_time numbers s)
+deletes-shelf : {B : Type 0} (same_time : Bool) (limit : ℕ) (s : Shelf B) → SoundShelf B same_time limit s → (numbers : List ℕ) → SoundShelf B same_time limit (delete_rows same_time numbers s)
 unfolding delete_rows
-deletes-whole same_time limit s w [] = w
-deletes-whole same_time limit s w (number ∷ numbers) = deletes-whole same_time limit (delete_row same_time number s) (delete-whole same_time limit s w number) numbers
+deletes-shelf same_time limit s w [] = w
+deletes-shelf same_time limit s w (number ∷ numbers) = deletes-shelf same_time limit (delete_row same_time number s) (delete-shelf same_time limit s w number) numbers
 
-lay-whole : {B : Type 0} (same_time : Bool) (limit : ℕ) (s : Shelf B) → Whole B same_time limit s → (column : ℕ) → Whole B same_time limit (lay_column same_time column s)
-lay-whole {B} same_time limit s w column =
+lay-shelf : {B : Type 0} (same_time : Bool) (limit : ℕ) (s : Shelf B) → SoundShelf B same_time limit s → (column : ℕ) → SoundShelf B same_time limit (lay_column same_time column s)
+lay-shelf {B} same_time limit s w column =
     let t = spread_store s in
     let sound = spread-sound same_time limit s w in
     like-sound same_time limit (lay_column same_time column s) (lay_store same_time column t) (lay-sound itself same_time limit t sound column)
@@ -94,13 +94,13 @@ lay-whole {B} same_time limit s w column =
     ∙ (shelves_are_blind (nothing {B = ℕ}) same_time (shelf_of itself t)).lays column
     ∙ ap (map_shelf (nothing {B = ℕ})) (sym (shelf_of-lay itself same_time limit t sound column)))
 
-pub operations_keep_whole : {B : Type 0} (same_time : Bool) (limit : ℕ) (s : Shelf B) → Whole B same_time limit s → StaysWhole B same_time limit s
-operations_keep_whole same_time limit s w =
-    record { inserts = insert-whole same_time limit s w; deletes = delete-whole same_time limit s w; deletes_each = deletes-whole same_time limit s w; lays = lay-whole same_time limit s w }
+pub operations_keep_shelf : {B : Type 0} (same_time : Bool) (limit : ℕ) (s : Shelf B) → SoundShelf B same_time limit s → ShelfStaysSound B same_time limit s
+operations_keep_shelf same_time limit s w =
+    record { inserts = insert-shelf same_time limit s w; deletes = delete-shelf same_time limit s w; deletes_each = deletes-shelf same_time limit s w; lays = lay-shelf same_time limit s w }
 
-pub empty_is_whole : (B : Type 0) (same_time : Bool) (limit columns : ℕ) → Whole B same_time limit (empty_shelf B columns)
-empty_is_whole B same_time limit columns =
-    subst (Whole B same_time limit) (shelf_of-empty (nothing {B = B}) columns) (sound_is_whole (nothing {B = B}) same_time limit (empty_store B columns) (empty-sound (nothing {B = B}) same_time limit columns))
+pub empty_shelf_is_sound : (B : Type 0) (same_time : Bool) (limit columns : ℕ) → SoundShelf B same_time limit (empty_shelf B columns)
+empty_shelf_is_sound B same_time limit columns =
+    subst (SoundShelf B same_time limit) (shelf_of-empty (nothing {B = B}) columns) (shelf_of_sound (nothing {B = B}) same_time limit (empty_store B columns) (empty-sound (nothing {B = B}) same_time limit columns))
 
 -- ---- rows keep their items
 
@@ -124,7 +124,7 @@ range-at n k h =
     ap (λ (xs : List ℕ). get_or xs k 0) (sym (map-nothing itself (range_with_len 0 n) (λ x. refl)))
     ∙ get_or-map-range_with_len itself 0 n k k 0 h (omega arith)
 
-pub stays-drop : {B : Type 0} (same_time : Bool) (c : Column B) (ranks earlier : List ℕ) (at rank : ℕ) → WholeColumn B same_time c ranks → at < size c.tree → rank < size c.tree → IsOneMore at earlier ranks → holds rank earlier ≡ true → is_origin rank (origins same_time (Drop at ∷ []) c) ≡ true
+pub stays-drop : {B : Type 0} (same_time : Bool) (c : Column B) (ranks earlier : List ℕ) (at rank : ℕ) → SoundRanks B same_time c ranks → at < size c.tree → rank < size c.tree → IsOneMore at earlier ranks → holds rank earlier ≡ true → is_origin rank (origins same_time (Drop at ∷ []) c) ≡ true
 unfolding counts
 stays-drop {B} same_time c ranks earlier at rank w h k one held =
     let n = size c.tree in
@@ -216,7 +216,7 @@ full-ranks {B} width number kept full there =
     ap length (sym (bare-ranks number kept))
     ∙ wide-cells width number (map bare_row kept) (bare-wide width kept full) (ap (holds number) (bare-numbers kept) ∙ there)
 
-drop-rows : {B : Type 0} (same_time : Bool) (limit : ℕ) (s : Shelf B) → Whole B same_time limit s → (number : ℕ) → RowsStay same_time (drops (ranks_of number s.kept)) s.columns (kept_without number s.kept)
+drop-rows : {B : Type 0} (same_time : Bool) (limit : ℕ) (s : Shelf B) → SoundShelf B same_time limit s → (number : ℕ) → RowsStay same_time (drops (ranks_of number s.kept)) s.columns (kept_without number s.kept)
 unfolding RowsStay
 drop-rows {B} same_time limit s w number i rank h held =
     let c = column_at s.columns i in
@@ -227,18 +227,18 @@ drop-rows {B} same_time limit s w number i rank h held =
           let earlier = ranks_at i (kept_without number s.kept) in
           let at = get_or (ranks_of number s.kept) i 0 in
           let one = one_rank_without i number s.kept there in
-          let inside = whole-within same_time limit s w in
+          let inside = shelf-within same_time limit s w in
           ap (λ (operations : List (Operation B)). is_origin rank (origins same_time operations c)) (drops-at (ranks_of number s.kept) i (omega (arith, h, full-ranks (length s.columns) number s.kept w.full there)))
           ∙ stays-drop same_time c ranks earlier at rank (w.columns i h) (inside i at h (held-new at earlier ranks one)) (inside i rank h (held-later at earlier ranks rank one held)) one held
       | inr none ↦
           ap (λ (xs : List ℕ). is_origin rank (origins same_time (get_or (drops {B = B} xs) i []) c)) (no-ranks number s.kept none)
-          ∙ no-steps same_time i c rank (whole-within same_time limit s w i rank h (ap (λ (kept : List (Kept B)). holds rank (ranks_at i kept)) (sym (no-row number s.kept none)) ∙ held))
+          ∙ no-steps same_time i c rank (shelf-within same_time limit s w i rank h (ap (λ (kept : List (Kept B)). holds rank (ranks_at i kept)) (sym (no-row number s.kept none)) ∙ held))
     ]
 
-pub operations_leave_rows : {B : Type 0} (same_time : Bool) (limit : ℕ) (s : Shelf B) → Whole B same_time limit s → LeavesRows B same_time s
+pub operations_leave_rows : {B : Type 0} (same_time : Bool) (limit : ℕ) (s : Shelf B) → SoundShelf B same_time limit s → LeavesRows B same_time s
 unfolding RowsStay
 operations_leave_rows {B} same_time limit s w =
-    let inside = whole-within same_time limit s w in
+    let inside = shelf-within same_time limit s w in
     record {
       inserts = λ places bodies i rank h held. adds-stay same_time places bodies i (column_at s.columns i) rank (inside i rank h held);
       deletes = drop-rows same_time limit s w;
@@ -272,13 +272,13 @@ fits-map {B} {C} f limit c fits = FitsRows-by limit c (map_column f c) (sym (col
 fits-back : {B C : Type 0} (f : B → C) (limit : ℕ) (c : Column B) → FitsRows C limit (map_column f c) → FitsRows B limit c
 fits-back {B} {C} f limit c fits = FitsRows-by limit (map_column f c) c (column-size f c) (column-height f c) (column-most f c) (column-counts f c) fits
 
-pub whole_fits_rows : {B : Type 0} (same_time : Bool) (limit : ℕ) (s : Shelf B) (column : ℕ) → Whole B same_time limit s → column < length s.columns → WholeGives B limit s column
+pub shelf_fits_rows : {B : Type 0} (same_time : Bool) (limit : ℕ) (s : Shelf B) (column : ℕ) → SoundShelf B same_time limit s → column < length s.columns → ShelfGives B limit s column
 unfolding spread_store
-whole_fits_rows {B} same_time limit s column w h =
+shelf_fits_rows {B} same_time limit s column w h =
     let t = spread_store s in
     let k : column < length t.columns = omega (arith, h, width s) in
     record {
-      within = λ rank held. whole-within same_time limit s w column rank h held;
+      within = λ rank held. shelf-within same_time limit s w column rank h held;
       fits = fits-back (nothing {B = B}) limit (column_at s.columns column)
           (subst (FitsRows ℕ limit) (ap (map_column (nothing {B = ℕ})) (column_at-spread s.columns column h) ∙ column-alike (column_at s.columns column))
           (fits-map (nothing {B = ℕ}) limit (column_at t.columns column) (sound_fits_rows itself same_time limit t column (spread-sound same_time limit s w) k)));

@@ -63,7 +63,7 @@ unfolding IsBelowAll
 below-front w [] ys h = tt
 below-front w (x ∷ xs) ys h = (h.0, below-front w xs ys h.1)
 
-rising-front : (xs ys : List ℕ) → IsIncreasing (xs ++ ys) → IsIncreasing xs
+pub rising-front : (xs ys : List ℕ) → IsIncreasing (xs ++ ys) → IsIncreasing xs
 unfolding IsIncreasing
 rising-front [] ys up = tt
 rising-front (x ∷ xs) ys up = (below-front x xs ys up.0, rising-front xs ys up.1)

@@ -18,3 +18,4 @@ pub mod Spread
 pub mod ShelfSoundOps
 pub mod Deleted
 pub mod ShelfTables
+pub mod ByIndex

@@ -1,7 +1,9 @@
 -- The row of a number: the rows without it, and what it has.
-use Rattle.std.proofs.Common.{◌≡◌, ℕ, suc, ◌≤◌, Bool, true, false, ◌||◌, List, [], ◌∷◌, ◌++◌, length, map, get_or, refl, ap, ◌∙◌, sym, subst, arith, eqb, eq-eqb}
+use Rattle.std.proofs.Common.{◌≡◌, ℕ, suc, ◌<◌, ◌≤◌, Bool, true, false, ◌||◌, List, [], ◌∷◌, ◌++◌, length, map, get_or, refl, ap, ◌∙◌, sym, subst, inl, inr, arith, eqb, eq-eqb}
+use Rattle.std.proofs.lemmas.Bool.{cases_Bool, cases_eq}
 use Rattle.tree_model.specs.Places.{one_if, holds, IsBelowAll, IsIncreasing}
 use Rattle.tree_model.specs.Tallies.{tally, IsOneMore}
+use Rattle.tree_model.proofs.Ordered.{holds-cons_ne}
 use Rattle.tree_model.proofs.CarriedRanks.{false_is_true}
 use Rattle.tree_model.proofs.TalliedRows.{tally-held, held-tally}
 use Rattle.table_model.specs.Stores.{Row}
@@ -162,3 +164,30 @@ pub rising-last : (next : ℕ) (xs : List ℕ) → IsIncreasing (xs ++ next ∷ 
 unfolding IsIncreasing IsBelowAll
 rising-last next [] up = ((omega arith, tt), (tt, tt))
 rising-last next (x ∷ xs) up = (below-last x next xs up.0, rising-last next xs up.1)
+
+-- ---- the next number is new
+
+below-at_end : (w next : ℕ) (xs : List ℕ) → IsBelowAll w (xs ++ next ∷ []) → w < next
+unfolding IsBelowAll
+below-at_end w next [] h = h.0
+below-at_end w next (x ∷ xs) h = below-at_end w next xs h.1
+
+none_held : {A : Type 0} (x : ℕ) → holds x [] ≡ true → A
+unfolding holds
+none_held x h = false_is_true h
+
+pub number-old : (next : ℕ) (xs : List ℕ) (x : ℕ) → IsIncreasing (xs ++ next ∷ []) → holds x xs ≡ true → x < next
+unfolding IsIncreasing
+number-old next [] x up held = none_held x held
+number-old next (y ∷ xs) x up held =
+    elim (cases_eq y x) [
+      | inl here ↦ omega (arith, below-at_end y next xs up.0, here)
+      | inr past ↦ number-old next xs x up.1 (sym (holds-cons_ne x y xs past) ∙ held)
+    ]
+
+pub next-new : (next : ℕ) (xs : List ℕ) → IsIncreasing (xs ++ next ∷ []) → holds next xs ≡ false
+next-new next xs up =
+    elim (cases_Bool (holds next xs)) [
+      | inl held ↦ absurd (omega (arith, number-old next xs next up held))
+      | inr free ↦ free
+    ]

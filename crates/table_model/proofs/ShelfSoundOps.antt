@@ -119,7 +119,7 @@ some_of : {A : Type 0} (xs : List A) (k : ℕ) → k < length xs → A
 some_of [] k h = absurd (omega arith)
 some_of (x ∷ xs) k h = x
 
-range-at : (n k : ℕ) → k < n → get_or (range_with_len 0 n) k 0 ≡ k
+pub range-at : (n k : ℕ) → k < n → get_or (range_with_len 0 n) k 0 ≡ k
 range-at n k h =
     ap (λ (xs : List ℕ). get_or xs k 0) (sym (map-nothing itself (range_with_len 0 n) (λ x. refl)))
     ∙ get_or-map-range_with_len itself 0 n k k 0 h (omega arith)
@@ -142,21 +142,21 @@ stays-drop {B} same_time c ranks earlier at rank w h k one held =
     ∙ rows_keep_item same_time at c rank e k (omega (arith, is, tally-held rank earlier held))
 
 -- at each column the lists of an INSERT have at most one operation, which adds
-adds-stay : {B : Type 0} (same_time : Bool) (places : List Place) (bodies : List B) (i : ℕ) (c : Column B) (rank : ℕ) → rank < size c.tree → is_origin rank (origins same_time (get_or (adds places bodies) i []) c) ≡ true
+pub adds-stay : {B : Type 0} (same_time : Bool) (places : List Place) (bodies : List B) (i : ℕ) (c : Column B) (rank : ℕ) → rank < size c.tree → is_origin rank (origins same_time (get_or (adds places bodies) i []) c) ≡ true
 unfolding adds
 adds-stay same_time [] bodies i c rank h = stays-nothing same_time c rank h
 adds-stay same_time (p ∷ places) [] i c rank h = stays-nothing same_time c rank h
 adds-stay same_time (p ∷ places) (b ∷ bodies) zero c rank h = stays-add same_time p b c rank h
 adds-stay same_time (p ∷ places) (b ∷ bodies) (suc i) c rank h = adds-stay same_time places bodies i c rank h
 
-only-stay : {B : Type 0} (same_time : Bool) (column i : ℕ) (c : Column B) (rank : ℕ) → rank < size c.tree → is_origin rank (origins same_time (get_or (only column (Lay ∷ [])) i []) c) ≡ true
+pub only-stay : {B : Type 0} (same_time : Bool) (column i : ℕ) (c : Column B) (rank : ℕ) → rank < size c.tree → is_origin rank (origins same_time (get_or (only column (Lay ∷ [])) i []) c) ≡ true
 unfolding only
 only-stay same_time zero zero c rank h = stays-lay same_time c rank h
 only-stay same_time zero (suc i) c rank h = stays-nothing same_time c rank h
 only-stay same_time (suc column) zero c rank h = stays-nothing same_time c rank h
 only-stay same_time (suc column) (suc i) c rank h = only-stay same_time column i c rank h
 
-drops-at : {B : Type 0} (ranks : List ℕ) (i : ℕ) → i < length ranks → get_or (drops {B = B} ranks) i [] ≡ Drop (get_or ranks i 0) ∷ []
+pub drops-at : {B : Type 0} (ranks : List ℕ) (i : ℕ) → i < length ranks → get_or (drops {B = B} ranks) i [] ≡ Drop (get_or ranks i 0) ∷ []
 unfolding drops
 drops-at [] i h = absurd (omega (arith, h))
 drops-at (rank ∷ ranks) zero h = refl
@@ -188,7 +188,7 @@ unfolding rows_without kept_without bare_row
 bare-without {B} number kept = without-map bare_row (λ (row : Kept B). row.number) (λ (row : Row ℕ). row.number) number kept (λ row. refl)
 
 -- the ranks in a column are those without the row of a number, and its
-one_rank_without : {B : Type 0} (i number : ℕ) (kept : List (Kept B)) → holds number (kept_numbers kept) ≡ true → IsOneMore (get_or (ranks_of number kept) i 0) (ranks_at i (kept_without number kept)) (ranks_at i kept)
+pub one_rank_without : {B : Type 0} (i number : ℕ) (kept : List (Kept B)) → holds number (kept_numbers kept) ≡ true → IsOneMore (get_or (ranks_of number kept) i 0) (ranks_at i (kept_without number kept)) (ranks_at i kept)
 one_rank_without i number kept there =
     let rows = map bare_row kept in
     let one = one_without itself i number rows (ap (holds number) (bare-numbers kept) ∙ there) in
@@ -203,15 +203,15 @@ unfolding AllFull AllWide bare_row
 bare-wide width [] full = tt
 bare-wide width (row ∷ kept) full = (full.1, bare-wide width kept full.2)
 
-no-ranks : {B : Type 0} (number : ℕ) (kept : List (Kept B)) → holds number (kept_numbers kept) ≡ false → ranks_of number kept ≡ []
+pub no-ranks : {B : Type 0} (number : ℕ) (kept : List (Kept B)) → holds number (kept_numbers kept) ≡ false → ranks_of number kept ≡ []
 unfolding ranks_of kept_numbers
 no-ranks {B} number kept none = beside-none (λ (row : Kept B). row.number) (λ (row : Kept B). row.ranks) number kept none
 
-no-row : {B : Type 0} (number : ℕ) (kept : List (Kept B)) → holds number (kept_numbers kept) ≡ false → kept_without number kept ≡ kept
+pub no-row : {B : Type 0} (number : ℕ) (kept : List (Kept B)) → holds number (kept_numbers kept) ≡ false → kept_without number kept ≡ kept
 unfolding kept_without kept_numbers
 no-row {B} number kept none = without-none (λ (row : Kept B). row.number) number kept none
 
-full-ranks : {B : Type 0} (width number : ℕ) (kept : List (Kept B)) → AllFull width kept → holds number (kept_numbers kept) ≡ true → length (ranks_of number kept) ≡ width
+pub full-ranks : {B : Type 0} (width number : ℕ) (kept : List (Kept B)) → AllFull width kept → holds number (kept_numbers kept) ≡ true → length (ranks_of number kept) ≡ width
 full-ranks {B} width number kept full there =
     ap length (sym (bare-ranks number kept))
     ∙ wide-cells width number (map bare_row kept) (bare-wide width kept full) (ap (holds number) (bare-numbers kept) ∙ there)

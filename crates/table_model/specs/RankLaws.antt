@@ -1,17 +1,19 @@
 -- What the operations on a table by rank keep: the statements of laws that this crate's functions without a body prove.
-use Rattle.std.specs.Prelude.{◌≡◌, ℕ, ◌<◌, Bool, true, List, [], ◌∷◌, length, map}
+use Rattle.std.specs.Prelude.{◌≡◌, ℕ, ◌<◌, Bool, true, List, [], ◌∷◌, length, map, get_or}
 use Rattle.tree_model.specs.declared.Place.{Place}
 use Rattle.tree_model.specs.Trees.{size}
 use Rattle.tree_model.specs.Places.{holds}
-use Rattle.tree_model.specs.Columns.{Lay}
+use Rattle.tree_model.specs.Columns.{Operation, Lay, apply_all}
+use Rattle.tree_model.specs.Sums.{origins}
+use Rattle.tree_model.specs.Carried.{carried}
 use Rattle.table_model.specs.Stores.{Store, Shelf, empty_shelf, map_shelf, shelf_of}
-use Rattle.table_model.specs.Steps.{adds, drops, only}
-use Rattle.table_model.specs.Changes.{insert_row, delete_row, delete_rows, lay_column, ranks_of, kept_without}
+use Rattle.table_model.specs.Steps.{operated, adds, drops, only}
+use Rattle.table_model.specs.Changes.{insert_row, delete_row, delete_rows, lay_column, ranks_of, kept_without, without_row}
 use Rattle.table_model.specs.Soundness.{ranks_at, column_at, Sound, FitsRows}
 use Rattle.table_model.specs.Operations.{RankOp, rank_ops_on, rank_install_on}
 use Rattle.table_model.specs.Fitting.{AllPlaced, AllFitAt}
 use Rattle.table_model.specs.Standing.{Stands}
-use Rattle.table_model.specs.ShelfSoundness.{SoundShelf, RowsStay, AllSoundShelves}
+use Rattle.table_model.specs.ShelfSoundness.{SoundShelf, IsRanked, RowsStay, AllSoundShelves}
 
 abbrev pub EmptyShelfIsSound : Type 0 → Type 0
 EmptyShelfIsSound B = (same_time : Bool) (limit columns : ℕ) → SoundShelf B same_time limit (empty_shelf B columns)
@@ -34,6 +36,22 @@ pub record LeavesRows (B : Type 0) (same_time : Bool) (s : Shelf B) : Type 0 whe
 
 abbrev pub OperationsLeaveRows : Type 0 → Type 0
 OperationsLeaveRows B = (same_time : Bool) (limit : ℕ) (s : Shelf B) → SoundShelf B same_time limit s → LeavesRows B same_time s
+
+-- column by column: a column after the operations, and the ranks of the rows in it
+pub record ColumnFollows (B : Type 0) (same_time : Bool) (steps : List (List (Operation B))) (s : Shelf B) (column : ℕ) : Type 0 where
+  pub column_is : column_at (operated same_time steps s).columns column ≡ apply_all same_time (get_or steps column []) (column_at s.columns column)
+  pub ranks_are : ranks_at column (operated same_time steps s).kept ≡ map (carried (origins same_time (get_or steps column []) (column_at s.columns column))) (ranks_at column s.kept)
+
+abbrev pub ColumnsFollow : Type 0 → Type 0
+ColumnsFollow B = (same_time : Bool) (steps : List (List (Operation B))) (s : Shelf B) (column : ℕ) → IsRanked B s → column < length s.columns → ColumnFollows B same_time steps s column
+
+-- a sound shelf has a rank of an item for each row and column, and keeps this where a row is taken out before its items lose it
+pub record HasRanks (B : Type 0) (s : Shelf B) : Type 0 where
+  pub ranked : IsRanked B s
+  pub without : (number : ℕ) → IsRanked B (without_row number s)
+
+abbrev pub SoundHasRanks : Type 0 → Type 0
+SoundHasRanks B = (same_time : Bool) (limit : ℕ) (s : Shelf B) → SoundShelf B same_time limit s → HasRanks B s
 
 -- what follows for a column: each row's rank is one of its items', and the limit of rows bounds items, counts and ways
 pub record ShelfGives (B : Type 0) (limit : ℕ) (s : Shelf B) (column : ℕ) : Type 0 where

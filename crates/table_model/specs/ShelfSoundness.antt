@@ -31,6 +31,11 @@ pub record SoundShelf (B : Type 0) (same_time : Bool) (limit : ℕ) (s : Shelf B
   pub full : AllFull (length s.columns) s.kept
   pub columns : (column : ℕ) → column < length s.columns → SoundRanks B same_time (column_at s.columns column) (ranks_at column s.kept)
 
+-- each row has the rank of an item in each column
+pub record IsRanked (B : Type 0) (s : Shelf B) : Type 0 where
+  pub full : AllFull (length s.columns) s.kept
+  pub within : (column rank : ℕ) → column < length s.columns → holds rank (ranks_at column s.kept) ≡ true → rank < size (column_at s.columns column).tree
+
 -- operations leave the items of these rows: each stays, so that `carried` tells its rank after them
 unfoldable pub RowsStay : {B : Type 0} → Bool → List (List (Operation B)) → List (Column B) → List (Kept B) → Type 0
 RowsStay same_time steps cs kept = (column rank : ℕ) → column < length cs → holds rank (ranks_at column kept) ≡ true → is_origin rank (origins same_time (get_or steps column []) (column_at cs column)) ≡ true

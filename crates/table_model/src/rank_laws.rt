@@ -1,5 +1,5 @@
 //! Laws of tables by rank alone, whatever their bodies are. Each function is empty: its contract is the law.
-ghost use Rattle.table_model.specs.RankLaws.{EmptyShelfIsSound, OperationsKeepShelf, OperationsLeaveRows, ShelfOfSound, StandingShelfIsSound, ShelvesStaySound, ShelfFitsRows, ShelfSoundIsBlind};
+ghost use Rattle.table_model.specs.RankLaws.{EmptyShelfIsSound, OperationsKeepShelf, OperationsLeaveRows, ColumnsFollow, SoundHasRanks, ShelfOfSound, StandingShelfIsSound, ShelvesStaySound, ShelfFitsRows, ShelfSoundIsBlind};
 
 /// A table by rank without rows is sound.
 pub fn empty_shelf_is_sound<B>()
@@ -15,6 +15,17 @@ pub fn operations_keep_shelf<B>()
 /// An operation leaves each row that isn't deleted its items: each stays, in both modes and through a sweep.
 pub fn operations_leave_rows<B>()
     ensures { OperationsLeaveRows B }
+{}
+
+/// Column by column: a column after operations is the column under its own list of them, and a row's rank in it is the one
+/// that `carried` tells.
+pub fn columns_follow<B>()
+    ensures { ColumnsFollow B }
+{}
+
+/// In a sound table by rank each row has the rank of an item in each column; so do the others where a row is taken out.
+pub fn sound_has_ranks<B>()
+    ensures { SoundHasRanks B }
 {}
 
 /// In a sound table by rank each row's rank is one of an item, and the limit of rows bounds items, counts and ways.

@@ -1,5 +1,5 @@
 -- Column by column: what operations do to a column and to the ranks of the rows in it.
-use Rattle.std.proofs.Common.{◌≡◌, ℕ, suc, zero, ◌+◌, ◌<◌, Bool, true, false, ◌||◌, List, [], ◌∷◌, length, map, get_or, refl, ap, ap₂, ◌∙◌, sym, arith, eqb}
+use Rattle.std.proofs.Common.{◌≡◌, ℕ, suc, zero, ◌<◌, Bool, true, false, ◌||◌, List, [], ◌∷◌, length, map, get_or, refl, ap₂, sym, arith, eqb}
 use Rattle.tree_model.specs.Trees.{size}
 use Rattle.tree_model.specs.Places.{holds}
 use Rattle.tree_model.specs.Columns.{Column, Operation, apply_all}
@@ -84,7 +84,7 @@ sound_has_ranks {B} same_time limit s sound =
     record {
       ranked = record { full = sound.full; within = inside };
       without = λ number. record {
-          full = full-without (length s.columns) number s.kept sound.full;
-          within = λ column rank h held. inside column rank h (held-without column rank number s.kept held);
-        };
+        full = full-without (length s.columns) number s.kept sound.full;
+        within = λ column rank h held. inside column rank h (held-without column rank number s.kept held);
+      };
     }

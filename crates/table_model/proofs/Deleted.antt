@@ -1,5 +1,5 @@
 -- The rows after a DELETE are those of other numbers.
-use Rattle.std.proofs.Common.{◌≡◌, ◌≢◌, ℕ, suc, zero, ◌<◌, Bool, true, false, not, ◌&&◌, ◌||◌, cond, List, [], ◌∷◌, ◌++◌, length, map, filter, refl, ap, ap₂, ◌∙◌, sym, subst, inl, inr, arith, eqb, eq-eqb, ne_eqb}
+use Rattle.std.proofs.Common.{◌≡◌, ℕ, ◌<◌, Bool, true, false, not, ◌&&◌, ◌||◌, cond, List, [], ◌∷◌, ◌++◌, map, filter, refl, ap, ap₂, ◌∙◌, sym, inl, inr, arith, eqb, eq-eqb, ne_eqb}
 use Rattle.std.proofs.lemmas.Bool.{cases_eq}
 use Rattle.tree_model.specs.Places.{holds, IsBelowAll, IsIncreasing}
 use Rattle.table_model.specs.Stores.{Row, Store}
@@ -105,7 +105,7 @@ delete_takes_rows {B} v same_time limit (number ∷ numbers) t sound =
     let rest = delete_takes_rows v same_time limit numbers (delete_number same_time v number t) (delete-sound v same_time limit t sound number) in
     record {
       rows = rest.rows
-      ∙ ap (filter (others numbers)) (deleted_one v same_time limit number t sound)
-      ∙ filter-both (other_than (λ (row : Row B). row.number) number) (others numbers) (others (number ∷ numbers)) t.rows (λ row. not_among number row.number numbers);
+          ∙ ap (filter (others numbers)) (deleted_one v same_time limit number t sound)
+          ∙ filter-both (other_than (λ (row : Row B). row.number) number) (others numbers) (others (number ∷ numbers)) t.rows (λ row. not_among number row.number numbers);
       next = rest.next ∙ next_one v same_time number t;
     }

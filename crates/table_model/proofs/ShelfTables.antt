@@ -1,8 +1,8 @@
 -- Several sound tables by rank.
-use Rattle.std.proofs.Common.{◌≡◌, ℕ, suc, zero, ◌<◌, Bool, List, [], ◌∷◌, length, map, refl, arith}
+use Rattle.std.proofs.Common.{◌≡◌, ℕ, suc, zero, ◌<◌, Bool, List, [], ◌∷◌, length, map}
 use Rattle.tree_model.specs.declared.Place.{Place}
 use Rattle.tree_model.specs.Items.{change_at}
-use Rattle.table_model.specs.Stores.{Kept, Shelf, empty_shelf}
+use Rattle.table_model.specs.Stores.{Shelf, empty_shelf}
 use Rattle.table_model.specs.Changes.{insert_row, delete_rows, lay_column}
 use Rattle.table_model.specs.Operations.{RankOp, InsertAt, DeleteAt, rank_op_on, rank_ops_on, rank_install_on, shelf_at}
 use Rattle.table_model.specs.Fitting.{AllPlaced, FitsAt, AllFitAt}

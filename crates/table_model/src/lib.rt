@@ -3,8 +3,8 @@
 
 pub mod examples;
 pub mod operation_laws;
+pub mod rank_laws;
 pub mod shelf_laws;
 pub mod standing_laws;
 pub mod step_laws;
 pub mod store_laws;
-pub mod rank_laws;

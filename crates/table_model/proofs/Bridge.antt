@@ -8,12 +8,12 @@ use Rattle.tree_model.specs.Tallies.{IsOneMore}
 use Rattle.tree_model.proofs.Ordered.{held_at-below}
 use Rattle.table_model.specs.Stores.{Row, Store, Kept, Shelf, empty_store, empty_shelf, ranks_by, kept_of, shelf_of}
 use Rattle.table_model.specs.Steps.{operate, follow, kept_after, operated, adds, drops, only, places_by}
-use Rattle.table_model.specs.Changes.{cells_of, rows_without, ranks_of, kept_without, with_row, insert_row, without_row, delete_row, delete_rows, lay_column, insert_cells, delete_number, delete_numbers, lay_store}
-use Rattle.table_model.specs.Soundness.{numbers_of, values_at, column_at, Sound}
+use Rattle.table_model.specs.Changes.{cells_of, rows_without, ranks_of, kept_without, with_kept, insert_row, shelf_without, delete_row, delete_rows, lay_column, insert_cells, delete_number, delete_numbers, lay_store}
+use Rattle.table_model.specs.Soundness.{numbers_of, column_values, column_at, Sound}
 use Rattle.table_model.specs.ShelfLaws.{IsByRank}
-use Rattle.table_model.proofs.Lists.{map-map, map-nothing, without-map, beside-map}
+use Rattle.table_model.proofs.Lists.{map-map, map-nothing, without-map, of_row-map}
 use Rattle.table_model.proofs.Following.{keys, Owned, owned-within, carried-drop}
-use Rattle.table_model.proofs.Numbers.{without-none, beside-none, one_without, held-later}
+use Rattle.table_model.proofs.Numbers.{without-none, of_row-none, one_without, held-later}
 use Rattle.table_model.proofs.Rows.{value_in, ranks-add, FollowsDrop, ranks-drop, ranks-lay, ranks-new, rows-follow}
 use Rattle.table_model.proofs.Sound.{owned-of, has_number, delete-none, owned-gone, delete-sound}
 
@@ -26,7 +26,7 @@ kept_row number bodies ranks = record { number = number; bodies = bodies; ranks 
 -- ---- INSERT
 
 pub shelf_of-insert : {B : Type 0} (v : B → ℕ) (same_time : Bool) (limit : ℕ) (t : Store B) → Sound B v same_time limit t → (cells : List B) → shelf_of v (insert_cells same_time v cells t) ≡ insert_row same_time (places_by v t.columns cells) cells (shelf_of v t)
-unfolding shelf_of insert_cells insert_row with_row operated kept_of
+unfolding shelf_of insert_cells insert_row with_kept operated kept_of
 shelf_of-insert {B} v same_time limit t sound cells =
     let cs = t.columns in
     let steps = adds (places_by v cs cells) cells in
@@ -48,7 +48,7 @@ no_ranks v (c ∷ cs) = refl
 ranks_of-kept : {B : Type 0} (v : B → ℕ) (cs : List (Column B)) (number : ℕ) (rows : List (Row B)) → ranks_of number (map (kept_of v cs) rows) ≡ ranks_by v cs (cells_of number rows)
 unfolding ranks_of cells_of kept_of
 ranks_of-kept {B} v cs number rows =
-    beside-map (kept_of v cs) (ranks_by v cs) (λ (row : Row B). row.number) (λ (row : Kept B). row.number) (λ (row : Row B). row.cells) (λ (row : Kept B). row.ranks) number rows (λ row. refl) (λ row. refl) (no_ranks v cs)
+    of_row-map (kept_of v cs) (ranks_by v cs) (λ (row : Row B). row.number) (λ (row : Kept B). row.number) (λ (row : Row B). row.cells) (λ (row : Kept B). row.ranks) number rows (λ row. refl) (λ row. refl) (no_ranks v cs)
 
 kept_without-kept : {B : Type 0} (v : B → ℕ) (cs : List (Column B)) (number : ℕ) (rows : List (Row B)) → kept_without number (map (kept_of v cs) rows) ≡ map (kept_of v cs) (rows_without number rows)
 unfolding kept_without rows_without kept_of
@@ -56,13 +56,13 @@ kept_without-kept {B} v cs number rows = without-map (kept_of v cs) (λ (row : R
 
 -- the rows that stay follow their items
 follows-drop : {B : Type 0} (v : B → ℕ) (same_time : Bool) (limit : ℕ) (t : Store B) → Sound B v same_time limit t → (number : ℕ) → has_number number t.rows ≡ true
-    → (i x : ℕ) → i < length t.columns → holds x (values_at v i (rows_without number t.rows)) ≡ true → FollowsDrop v same_time (column_at t.columns i) (value_in v (cells_of number t.rows) i) x
+    → (i x : ℕ) → i < length t.columns → holds x (column_values v i (rows_without number t.rows)) ≡ true → FollowsDrop v same_time (column_at t.columns i) (value_in v (cells_of number t.rows) i) x
 unfolding FollowsDrop
 follows-drop v same_time limit t sound number there i x h held =
     let c = column_at t.columns i in
     let y = value_in v (cells_of number t.rows) i in
-    let before = values_at v i t.rows in
-    let after = values_at v i (rows_without number t.rows) in
+    let before = column_values v i t.rows in
+    let after = column_values v i (rows_without number t.rows) in
     let one = one_without v i number t.rows there in
     let gone = owned-gone v same_time limit t number sound there i h in
     carried-drop v same_time c before after (below y (keys v c)) 0 x (sound.columns i h).tallied (owned-within v c y gone)
@@ -70,7 +70,7 @@ follows-drop v same_time limit t sound number there i x h held =
     held (owned-of v same_time limit t sound i x h (held-later y after before x one held))
 
 shelf_of-delete_there : {B : Type 0} (v : B → ℕ) (same_time : Bool) (limit : ℕ) (t : Store B) → Sound B v same_time limit t → (number : ℕ) → has_number number t.rows ≡ true → shelf_of v (delete_number same_time v number t) ≡ delete_row same_time number (shelf_of v t)
-unfolding shelf_of delete_number delete_row operated without_row
+unfolding shelf_of delete_number delete_row operated shelf_without
 shelf_of-delete_there {B} v same_time limit t sound number there =
     let cs = t.columns in
     let gone = cells_of number t.rows in
@@ -90,10 +90,10 @@ unfolding operated operate
 operated-nothing {B} same_time s = ap (λ (kept : List (Kept B)). shelf kept s.next s.columns) (kept-nothing same_time s.columns s.kept)
 
 pub delete_row-none : {B : Type 0} (same_time : Bool) (number : ℕ) (s : Shelf B) → holds number (map (λ (row : Kept B). row.number) s.kept) ≡ false → delete_row same_time number s ≡ s
-unfolding delete_row without_row ranks_of kept_without drops
+unfolding delete_row shelf_without ranks_of kept_without drops
 delete_row-none {B} same_time number s none =
     ap₂ (λ (ranks : List ℕ) (kept : List (Kept B)). operated same_time (drops {B = B} ranks) (shelf kept s.next s.columns))
-    (beside-none (λ (row : Kept B). row.number) (λ (row : Kept B). row.ranks) number s.kept none)
+    (of_row-none (λ (row : Kept B). row.number) (λ (row : Kept B). row.ranks) number s.kept none)
     (without-none (λ (row : Kept B). row.number) number s.kept none)
     ∙ operated-nothing same_time s
 

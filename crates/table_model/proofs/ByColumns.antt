@@ -8,7 +8,7 @@ use Rattle.tree_model.specs.Columns.{Column, Operation, Lay, map_operation}
 use Rattle.tree_model.proofs.Summed.{apply_all-append}
 use Rattle.table_model.specs.Stores.{Shelf, empty_shelf, map_shelf}
 use Rattle.table_model.specs.Steps.{operate, operated, then_steps, all_steps, adds, drops, only, map_steps}
-use Rattle.table_model.specs.Changes.{with_row, insert_row, without_row, delete_row, delete_rows, delete_steps, ranks_of, lay_column}
+use Rattle.table_model.specs.Changes.{with_kept, insert_row, shelf_without, delete_row, delete_rows, delete_steps, ranks_of, lay_column}
 use Rattle.table_model.specs.Operations.{RankOp, InsertAt, DeleteAt, rank_op_on, rank_ops_on, map_rank_op, shelf_at, steps_if, op_steps, ops_steps}
 use Rattle.table_model.specs.StepLaws.{ColumnsAfter}
 use Rattle.table_model.proofs.Maps.{adds-map, shelves_are_blind}
@@ -25,7 +25,7 @@ steps_compose same_time (operations ∷ more) (next ∷ later) (c ∷ cs) =
 -- ---- one table
 
 deleted-columns : {B : Type 0} (same_time : Bool) (number : ℕ) (s : Shelf B) → (delete_row same_time number s).columns ≡ operate same_time (drops (ranks_of number s.kept)) s.columns
-unfolding delete_row operated without_row
+unfolding delete_row operated shelf_without
 deleted-columns same_time number s = refl
 
 pub deleted_each-columns : {B : Type 0} (same_time : Bool) (numbers : List ℕ) (s : Shelf B) → (delete_rows same_time numbers s).columns ≡ operate same_time (all_steps (delete_steps same_time numbers s)) s.columns
@@ -39,7 +39,7 @@ deleted_each-columns same_time (number ∷ numbers) s =
     ∙ sym (steps_compose same_time steps (all_steps (delete_steps same_time numbers after)) s.columns)
 
 inserted-columns : {B : Type 0} (same_time : Bool) (places : List Place) (bodies : List B) (s : Shelf B) → (insert_row same_time places bodies s).columns ≡ operate same_time (adds places bodies) s.columns
-unfolding insert_row with_row operated
+unfolding insert_row with_kept operated
 inserted-columns same_time places bodies s = refl
 
 laid-columns : {B : Type 0} (same_time : Bool) (column : ℕ) (s : Shelf B) → (lay_column same_time column s).columns ≡ operate same_time (only column (Lay ∷ [])) s.columns

@@ -9,7 +9,7 @@ use Rattle.tree_model.proofs.Ordered.{holds-cons_eq}
 use Rattle.tree_model.proofs.RankLaws.{carried_of_nothing}
 use Rattle.table_model.specs.Stores.{Kept, Shelf}
 use Rattle.table_model.specs.Steps.{operate, follow, kept_after, operated}
-use Rattle.table_model.specs.Changes.{here_or, without, kept_without, without_row}
+use Rattle.table_model.specs.Changes.{here_or, without, kept_without, shelf_without}
 use Rattle.table_model.specs.Soundness.{ranks_at, column_at}
 use Rattle.table_model.specs.ShelfSoundness.{AllFull, SoundShelf, IsRanked}
 use Rattle.table_model.specs.RankLaws.{ColumnFollows, HasRanks}
@@ -78,7 +78,7 @@ held-without column rank number (row ∷ kept) held =
     rank_here column rank row kept (kept_without number kept) (eqb row.number number) (held-without column rank number kept) held
 
 pub sound_has_ranks : {B : Type 0} (same_time : Bool) (limit : ℕ) (s : Shelf B) → SoundShelf B same_time limit s → HasRanks B s
-unfolding without_row
+unfolding shelf_without
 sound_has_ranks {B} same_time limit s sound =
     let inside = shelf-within same_time limit s sound in
     record {

@@ -1,6 +1,6 @@
 -- Lists: maps, and the row of a number.
 use Rattle.std.proofs.Common.{◌≡◌, ℕ, Bool, true, false, ◌==◌, List, [], ◌∷◌, map, refl, ap, ap₂, ◌∙◌, sym}
-use Rattle.table_model.specs.Changes.{here_or, without, beside}
+use Rattle.table_model.specs.Changes.{here_or, without, of_row}
 
 pub map-map : {A B C : Type 0} (f : B → C) (g : A → B) (xs : List A) → map f (map g xs) ≡ map (λ (x : A). f (g x)) xs
 map-map f g [] = refl
@@ -33,11 +33,11 @@ unfolding here_or
 here_or-apply h true here rest = refl
 here_or-apply h false here rest = refl
 
-pub beside-map : {A B C D : Type 0} (g : A → B) (h : List C → List D) (number_of : A → ℕ) (number_is : B → ℕ) (what : A → List C) (what_is : B → List D) (number : ℕ) (rows : List A)
-    → ((x : A) → number_is (g x) ≡ number_of x) → ((x : A) → what_is (g x) ≡ h (what x)) → h [] ≡ [] → beside number_is what_is number (map g rows) ≡ h (beside number_of what number rows)
-unfolding beside
-beside-map g h number_of number_is what what_is number [] same says none = sym none
-beside-map g h number_of number_is what what_is number (row ∷ rows) same says none =
-    ap (λ (k : ℕ). here_or (k == number) (what_is (g row)) (beside number_is what_is number (map g rows))) (same row)
-    ∙ ap₂ (λ (here rest : List _). here_or (number_of row == number) here rest) (says row) (beside-map g h number_of number_is what what_is number rows same says none)
-    ∙ here_or-apply h (number_of row == number) (what row) (beside number_of what number rows)
+pub of_row-map : {A B C D : Type 0} (g : A → B) (h : List C → List D) (number_of : A → ℕ) (number_is : B → ℕ) (what : A → List C) (what_is : B → List D) (number : ℕ) (rows : List A)
+    → ((x : A) → number_is (g x) ≡ number_of x) → ((x : A) → what_is (g x) ≡ h (what x)) → h [] ≡ [] → of_row number_is what_is number (map g rows) ≡ h (of_row number_of what number rows)
+unfolding of_row
+of_row-map g h number_of number_is what what_is number [] same says none = sym none
+of_row-map g h number_of number_is what what_is number (row ∷ rows) same says none =
+    ap (λ (k : ℕ). here_or (k == number) (what_is (g row)) (of_row number_is what_is number (map g rows))) (same row)
+    ∙ ap₂ (λ (here rest : List _). here_or (number_of row == number) here rest) (says row) (of_row-map g h number_of number_is what what_is number rows same says none)
+    ∙ here_or-apply h (number_of row == number) (what row) (of_row number_of what number rows)

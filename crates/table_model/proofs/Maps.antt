@@ -8,9 +8,9 @@ use Rattle.tree_model.proofs.Blind.{apply_all-map}
 use Rattle.tree_model.proofs.Summed.{origins-map}
 use Rattle.table_model.specs.Stores.{Kept, Shelf, map_kept, map_shelf}
 use Rattle.table_model.specs.Steps.{operate, follow, kept_after, operated, adds, drops, only, rank_in, map_steps}
-use Rattle.table_model.specs.Changes.{ranks_of, kept_without, with_row, insert_row, without_row, delete_row, delete_rows, delete_steps, lay_column}
+use Rattle.table_model.specs.Changes.{ranks_of, kept_without, with_kept, insert_row, shelf_without, delete_row, delete_rows, delete_steps, lay_column}
 use Rattle.table_model.specs.ShelfLaws.{IsBlind}
-use Rattle.table_model.proofs.Lists.{map-map, map-same, without-map, beside-map}
+use Rattle.table_model.proofs.Lists.{map-map, map-same, without-map, of_row-map}
 
 -- ---- columns and ranks
 
@@ -64,19 +64,19 @@ operated-map {B} {C} f same_time steps s =
     ∙ sym (map-map (map_kept f) (kept_after same_time steps s.columns) s.kept))
     (operate-map f same_time steps s.columns)
 
-with_row-map : {B C : Type 0} (f : B → C) (ranks : List ℕ) (bodies : List B) (s : Shelf B) → with_row ranks (map f bodies) (map_shelf f s) ≡ map_shelf f (with_row ranks bodies s)
-unfolding with_row map_shelf map_kept
-with_row-map {B} {C} f ranks bodies s =
+with_kept-map : {B C : Type 0} (f : B → C) (ranks : List ℕ) (bodies : List B) (s : Shelf B) → with_kept ranks (map f bodies) (map_shelf f s) ≡ map_shelf f (with_kept ranks bodies s)
+unfolding with_kept map_shelf map_kept
+with_kept-map {B} {C} f ranks bodies s =
     ap (λ (kept : List (Kept C)). shelf kept (suc s.next) (map (map_column f) s.columns))
     (sym (map-append (map_kept f) s.kept (record { number = s.next; bodies = bodies; ranks = ranks } ∷ [])))
 
 ranks_of-map : {B C : Type 0} (f : B → C) (number : ℕ) (kept : List (Kept B)) → ranks_of number (map (map_kept f) kept) ≡ ranks_of number kept
 unfolding ranks_of map_kept
-ranks_of-map {B} {C} f number kept = beside-map (map_kept f) (λ (ranks : List ℕ). ranks) (λ (row : Kept B). row.number) (λ (row : Kept C). row.number) (λ (row : Kept B). row.ranks) (λ (row : Kept C). row.ranks) number kept (λ row. refl) (λ row. refl) refl
+ranks_of-map {B} {C} f number kept = of_row-map (map_kept f) (λ (ranks : List ℕ). ranks) (λ (row : Kept B). row.number) (λ (row : Kept C). row.number) (λ (row : Kept B). row.ranks) (λ (row : Kept C). row.ranks) number kept (λ row. refl) (λ row. refl) refl
 
-without_row-map : {B C : Type 0} (f : B → C) (number : ℕ) (s : Shelf B) → without_row number (map_shelf f s) ≡ map_shelf f (without_row number s)
-unfolding without_row kept_without map_shelf map_kept
-without_row-map {B} {C} f number s =
+shelf_without-map : {B C : Type 0} (f : B → C) (number : ℕ) (s : Shelf B) → shelf_without number (map_shelf f s) ≡ map_shelf f (shelf_without number s)
+unfolding shelf_without kept_without map_shelf map_kept
+shelf_without-map {B} {C} f number s =
     ap (λ (kept : List (Kept C)). shelf kept s.next (map (map_column f) s.columns))
     (without-map (map_kept f) (λ (row : Kept B). row.number) (λ (row : Kept C). row.number) number s.kept (λ row. refl))
 
@@ -85,16 +85,16 @@ without_row-map {B} {C} f number s =
 insert_row-map : {B C : Type 0} (f : B → C) (same_time : Bool) (places : List Place) (bodies : List B) (s : Shelf B) → insert_row same_time places (map f bodies) (map_shelf f s) ≡ map_shelf f (insert_row same_time places bodies s)
 unfolding insert_row
 insert_row-map f same_time places bodies s =
-    ap (λ (t : Shelf _). with_row (map rank_in places) (map f bodies) t)
+    ap (λ (t : Shelf _). with_kept (map rank_in places) (map f bodies) t)
     (ap (λ (steps : List (List (Operation _))). operated same_time steps (map_shelf f s)) (adds-map f places bodies) ∙ operated-map f same_time (adds places bodies) s)
-    ∙ with_row-map f (map rank_in places) bodies (operated same_time (adds places bodies) s)
+    ∙ with_kept-map f (map rank_in places) bodies (operated same_time (adds places bodies) s)
 
 pub delete_row-map : {B C : Type 0} (f : B → C) (same_time : Bool) (number : ℕ) (s : Shelf B) → delete_row same_time number (map_shelf f s) ≡ map_shelf f (delete_row same_time number s)
 unfolding delete_row map_shelf
 delete_row-map f same_time number s =
     ap₂ (λ (steps : List (List (Operation _))) (t : Shelf _). operated same_time steps t)
-    (ap drops (ranks_of-map f number s.kept) ∙ drops-map f (ranks_of number s.kept)) (without_row-map f number s)
-    ∙ operated-map f same_time (drops (ranks_of number s.kept)) (without_row number s)
+    (ap drops (ranks_of-map f number s.kept) ∙ drops-map f (ranks_of number s.kept)) (shelf_without-map f number s)
+    ∙ operated-map f same_time (drops (ranks_of number s.kept)) (shelf_without number s)
 
 delete_rows-map : {B C : Type 0} (f : B → C) (same_time : Bool) (numbers : List ℕ) (s : Shelf B) → delete_rows same_time numbers (map_shelf f s) ≡ map_shelf f (delete_rows same_time numbers s)
 unfolding delete_rows

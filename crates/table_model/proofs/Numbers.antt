@@ -7,8 +7,8 @@ use Rattle.tree_model.proofs.Ordered.{holds-cons_ne}
 use Rattle.tree_model.proofs.CarriedRanks.{false_is_true}
 use Rattle.tree_model.proofs.TalliedRows.{tally-held, held-tally}
 use Rattle.table_model.specs.Stores.{Row}
-use Rattle.table_model.specs.Changes.{here_or, without, beside, cells_of, rows_without}
-use Rattle.table_model.specs.Soundness.{numbers_of, value_at, values_at, AllWide}
+use Rattle.table_model.specs.Changes.{here_or, without, of_row, cells_of, rows_without}
+use Rattle.table_model.specs.Soundness.{numbers_of, cell_value, column_values, AllWide}
 use Rattle.table_model.proofs.Lists.{without-map}
 
 -- ---- where no row has the number
@@ -25,13 +25,13 @@ without-none number_of number (row ∷ rows) none =
     ap (λ (b : Bool). here_or b rows (row ∷ without number_of number rows)) both.0
     ∙ ap (λ (rest : List _). row ∷ rest) (without-none number_of number rows both.1)
 
-pub beside-none : {A C : Type 0} (number_of : A → ℕ) (what : A → List C) (number : ℕ) (rows : List A) → holds number (map number_of rows) ≡ false → beside number_of what number rows ≡ []
-unfolding beside here_or holds
-beside-none number_of what number [] none = refl
-beside-none number_of what number (row ∷ rows) none =
+pub of_row-none : {A C : Type 0} (number_of : A → ℕ) (what : A → List C) (number : ℕ) (rows : List A) → holds number (map number_of rows) ≡ false → of_row number_of what number rows ≡ []
+unfolding of_row here_or holds
+of_row-none number_of what number [] none = refl
+of_row-none number_of what number (row ∷ rows) none =
     let both = neither (eqb (number_of row) number) (holds number (map number_of rows)) none in
-    ap (λ (b : Bool). here_or b (what row) (beside number_of what number rows)) both.0
-    ∙ beside-none number_of what number rows both.1
+    ap (λ (b : Bool). here_or b (what row) (of_row number_of what number rows)) both.0
+    ∙ of_row-none number_of what number rows both.1
 
 -- ---- the values of the others
 
@@ -43,22 +43,22 @@ one_if-twice false true n = refl
 one_if-twice false false n = refl
 
 one_here : {B : Type 0} (v : B → ℕ) (column : ℕ) (row : Row B) (rows rest : List (Row B)) (cells : List B) (b : Bool)
-    → (b ≡ false → IsOneMore (get_or (map v cells) column 0) (values_at v column rest) (values_at v column rows))
-    → IsOneMore (get_or (map v (here_or b row.cells cells)) column 0) (values_at v column (here_or b rows (row ∷ rest))) (values_at v column (row ∷ rows))
-unfolding IsOneMore tally values_at value_at here_or
+    → (b ≡ false → IsOneMore (get_or (map v cells) column 0) (column_values v column rest) (column_values v column rows))
+    → IsOneMore (get_or (map v (here_or b row.cells cells)) column 0) (column_values v column (here_or b rows (row ∷ rest))) (column_values v column (row ∷ rows))
+unfolding IsOneMore tally column_values cell_value here_or
 one_here v column row rows rest cells true one other = refl
 one_here v column row rows rest cells false one other =
     let key = get_or (map v cells) column 0 in
     let x = get_or (map v row.cells) column 0 in
-    ap (one_if (eqb x other)) (one refl other) ∙ one_if-twice (eqb x other) (eqb key other) (tally (values_at v column rest) other)
+    ap (one_if (eqb x other)) (one refl other) ∙ one_if-twice (eqb x other) (eqb key other) (tally (column_values v column rest) other)
 
 later_holds : (a b : Bool) → (a || b) ≡ true → a ≡ false → b ≡ true
 later_holds true b e f = false_is_true (sym f)
 later_holds false b e f = e
 
 -- the rows are those without the row of a number, and it
-pub one_without : {B : Type 0} (v : B → ℕ) (column number : ℕ) (rows : List (Row B)) → holds number (numbers_of rows) ≡ true → IsOneMore (get_or (map v (cells_of number rows)) column 0) (values_at v column (rows_without number rows)) (values_at v column rows)
-unfolding numbers_of cells_of rows_without without beside holds
+pub one_without : {B : Type 0} (v : B → ℕ) (column number : ℕ) (rows : List (Row B)) → holds number (numbers_of rows) ≡ true → IsOneMore (get_or (map v (cells_of number rows)) column 0) (column_values v column (rows_without number rows)) (column_values v column rows)
+unfolding numbers_of cells_of rows_without without of_row holds
 one_without v column number [] h = false_is_true h
 one_without v column number (row ∷ rows) h =
     one_here v column row rows (rows_without number rows) (cells_of number rows) (eqb row.number number)
@@ -100,7 +100,7 @@ cells_here width here rest true h more = h
 cells_here width here rest false h more = more refl
 
 pub wide-cells : {B : Type 0} (width number : ℕ) (rows : List (Row B)) → AllWide width rows → holds number (numbers_of rows) ≡ true → length (cells_of number rows) ≡ width
-unfolding cells_of beside AllWide numbers_of holds
+unfolding cells_of of_row AllWide numbers_of holds
 wide-cells width number [] wide h = false_is_true h
 wide-cells width number (row ∷ rows) wide h =
     cells_here width row.cells (cells_of number rows) (eqb row.number number) wide.0

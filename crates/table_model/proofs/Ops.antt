@@ -13,8 +13,8 @@ use Rattle.table_model.specs.Stores.{Row, Store, Kept, Shelf, empty_shelf, map_s
 use Rattle.table_model.specs.Steps.{places_by}
 use Rattle.table_model.specs.Changes.{insert_row, delete_rows, lay_column, insert_cells, delete_numbers, lay_store}
 use Rattle.table_model.specs.Soundness.{numbers_of, kept_numbers, column_at, Sound, Same}
-use Rattle.table_model.specs.Operations.{Op, Insert, Delete, RankOp, InsertAt, DeleteAt, op_on, ops_on, rank_op_on, rank_ops_on, columns_in, rows_in, placed_op, placed_ops, map_op, map_rank_op, shelf_at, install_on, rank_install_on, AllSound, AllSame}
-use Rattle.table_model.specs.Fitting.{AllAmong, Fits, AllFit, AllPlaced, FitsAt, AllFitAt}
+use Rattle.table_model.specs.Operations.{ValueOp, InsertCells, DeleteRows, RankOp, InsertAt, DeleteAt, op_on, ops_on, rank_op_on, rank_ops_on, columns_in, rows_in, placed_op, placed_ops, map_op, map_rank_op, shelf_at, install_on, rank_install_on, AllSound, AllSame}
+use Rattle.table_model.specs.Fitting.{AllAmong, OpFits, AllFit, AllPlaced, OpFitsAt, AllFitAt}
 use Rattle.table_model.specs.OperationLaws.{AreByRank, OpsAreBlind, AllDoSame, Installs}
 use Rattle.table_model.proofs.Maps.{shelves_are_blind}
 use Rattle.table_model.proofs.StoreMaps.{places_by-map, stores_map}
@@ -38,10 +38,10 @@ deletes_in-sound v same_time limit numbers [] table sound = sound
 deletes_in-sound v same_time limit numbers (t ∷ stores) zero sound = (deletes-sound v same_time limit t sound.0 numbers, sound.1)
 deletes_in-sound v same_time limit numbers (t ∷ stores) (suc table) sound = (sound.0, deletes_in-sound v same_time limit numbers stores table sound.1)
 
-pub op-sound : {B : Type 0} (v : B → ℕ) (same_time : Bool) (limit : ℕ) (op : Op B) (stores : List (Store B)) → AllSound v same_time limit stores → Fits limit op stores → AllSound v same_time limit (op_on same_time v op stores)
-unfolding op_on Fits
-op-sound v same_time limit (Insert table cells) stores sound fits = inserts-sound v same_time limit cells stores table fits.wide fits.room sound
-op-sound v same_time limit (Delete table numbers) stores sound fits = deletes_in-sound v same_time limit numbers stores table sound
+pub op-sound : {B : Type 0} (v : B → ℕ) (same_time : Bool) (limit : ℕ) (op : ValueOp B) (stores : List (Store B)) → AllSound v same_time limit stores → OpFits limit op stores → AllSound v same_time limit (op_on same_time v op stores)
+unfolding op_on OpFits
+op-sound v same_time limit (InsertCells table cells) stores sound fits = inserts-sound v same_time limit cells stores table fits.wide fits.room sound
+op-sound v same_time limit (DeleteRows table numbers) stores sound fits = deletes_in-sound v same_time limit numbers stores table sound
 
 inserts-shelves : {B : Type 0} (v : B → ℕ) (same_time : Bool) (limit : ℕ) (cells : List B) (stores : List (Store B)) (table : ℕ) → AllSound v same_time limit stores
     → map (shelf_of v) (change_at (insert_cells same_time v cells) stores table) ≡ change_at (insert_row same_time (places_by v (columns_in stores table) cells) cells) (map (shelf_of v) stores) table
@@ -57,10 +57,10 @@ deletes-shelves v same_time limit numbers [] table sound = refl
 deletes-shelves v same_time limit numbers (t ∷ stores) zero sound = ap (λ (s : Shelf _). s ∷ map (shelf_of v) stores) (shelf_of-deletes v same_time limit t sound.0 numbers)
 deletes-shelves v same_time limit numbers (t ∷ stores) (suc table) sound = ap (λ (rest : List (Shelf _)). shelf_of v t ∷ rest) (deletes-shelves v same_time limit numbers stores table sound.1)
 
-pub op-shelves : {B : Type 0} (v : B → ℕ) (same_time : Bool) (limit : ℕ) (op : Op B) (stores : List (Store B)) → AllSound v same_time limit stores → map (shelf_of v) (op_on same_time v op stores) ≡ rank_op_on same_time (placed_op v op stores) (map (shelf_of v) stores)
+pub op-shelves : {B : Type 0} (v : B → ℕ) (same_time : Bool) (limit : ℕ) (op : ValueOp B) (stores : List (Store B)) → AllSound v same_time limit stores → map (shelf_of v) (op_on same_time v op stores) ≡ rank_op_on same_time (placed_op v op stores) (map (shelf_of v) stores)
 unfolding op_on rank_op_on placed_op
-op-shelves v same_time limit (Insert table cells) stores sound = inserts-shelves v same_time limit cells stores table sound
-op-shelves v same_time limit (Delete table numbers) stores sound = deletes-shelves v same_time limit numbers stores table sound
+op-shelves v same_time limit (InsertCells table cells) stores sound = inserts-shelves v same_time limit cells stores table sound
+op-shelves v same_time limit (DeleteRows table numbers) stores sound = deletes-shelves v same_time limit numbers stores table sound
 
 -- ---- operations that fit
 
@@ -97,9 +97,9 @@ placed-all v (c ∷ cs) (cell ∷ cells) wide up = (
   placed-all v cs cells (omega (arith, wide)) (λ i h. up (suc i) (omega (arith, h))),
 )
 
-op-fits : {B : Type 0} (v : B → ℕ) (same_time : Bool) (limit : ℕ) (op : Op B) (stores : List (Store B)) → AllSound v same_time limit stores → Fits limit op stores → FitsAt limit (placed_op v op stores) (map (shelf_of v) stores)
-unfolding Fits FitsAt placed_op
-op-fits {B} v same_time limit (Insert table cells) stores sound fits =
+op-fits : {B : Type 0} (v : B → ℕ) (same_time : Bool) (limit : ℕ) (op : ValueOp B) (stores : List (Store B)) → AllSound v same_time limit stores → OpFits limit op stores → OpFitsAt limit (placed_op v op stores) (map (shelf_of v) stores)
+unfolding OpFits OpFitsAt placed_op
+op-fits {B} v same_time limit (InsertCells table cells) stores sound fits =
     let cs = columns_in stores table in
     let is = columns-shelf v stores table in
     record {
@@ -108,7 +108,7 @@ op-fits {B} v same_time limit (Insert table cells) stores sound fits =
       wide = fits.wide ∙ sym (ap length is);
       room = omega (arith, fits.room, kept-shelf v stores table);
     }
-op-fits v same_time limit (Delete table numbers) stores sound fits =
+op-fits v same_time limit (DeleteRows table numbers) stores sound fits =
     record {
       there = omega (arith, fits.there, length-map stores (shelf_of v));
       some = fits.some;
@@ -116,7 +116,7 @@ op-fits v same_time limit (Delete table numbers) stores sound fits =
       live = subst (λ (ns : List ℕ). AllAmong ns numbers) (sym (numbers-shelf v stores table)) fits.live;
     }
 
-pub ops_are_by_rank : {B : Type 0} (v : B → ℕ) (same_time : Bool) (limit : ℕ) (ops : List (Op B)) (stores : List (Store B)) → AllSound v same_time limit stores → AllFit same_time v limit ops stores → AreByRank B v same_time limit ops stores
+pub ops_are_by_rank : {B : Type 0} (v : B → ℕ) (same_time : Bool) (limit : ℕ) (ops : List (ValueOp B)) (stores : List (Store B)) → AllSound v same_time limit stores → AllFit same_time v limit ops stores → AreByRank B v same_time limit ops stores
 unfolding ops_on rank_ops_on placed_ops AllFit AllFitAt
 ops_are_by_rank v same_time limit [] stores sound fit = record { sound = sound; fit = tt; shelves = refl }
 ops_are_by_rank v same_time limit (op ∷ ops) stores sound fit =
@@ -143,14 +143,14 @@ rank_ops-map f same_time [] shelves = refl
 rank_ops-map f same_time (op ∷ ops) shelves =
     ap (rank_ops_on same_time (map (map_rank_op f) ops)) (rank_op-map f same_time op shelves) ∙ rank_ops-map f same_time ops (rank_op_on same_time op shelves)
 
-op-map : {B C : Type 0} (f : B → C) (v : C → ℕ) (same_time : Bool) (op : Op B) (stores : List (Store B)) → op_on same_time v (map_op f op) (map (map_store f) stores) ≡ map (map_store f) (op_on same_time (λ (b : B). v (f b)) op stores)
+op-map : {B C : Type 0} (f : B → C) (v : C → ℕ) (same_time : Bool) (op : ValueOp B) (stores : List (Store B)) → op_on same_time v (map_op f op) (map (map_store f) stores) ≡ map (map_store f) (op_on same_time (λ (b : B). v (f b)) op stores)
 unfolding op_on map_op
-op-map {B} f v same_time (Insert table cells) stores =
+op-map {B} f v same_time (InsertCells table cells) stores =
     map-change_at_other (map_store f) (insert_cells same_time (λ (b : B). v (f b)) cells) (insert_cells same_time v (map f cells)) (λ t. sym ((stores_map f v same_time t).inserts cells)) stores table
-op-map {B} f v same_time (Delete table numbers) stores =
+op-map {B} f v same_time (DeleteRows table numbers) stores =
     map-change_at_other (map_store f) (delete_numbers same_time (λ (b : B). v (f b)) numbers) (delete_numbers same_time v numbers) (λ t. sym ((stores_map f v same_time t).deletes_each numbers)) stores table
 
-ops-map : {B C : Type 0} (f : B → C) (v : C → ℕ) (same_time : Bool) (ops : List (Op B)) (stores : List (Store B)) → ops_on same_time v (map (map_op f) ops) (map (map_store f) stores) ≡ map (map_store f) (ops_on same_time (λ (b : B). v (f b)) ops stores)
+ops-map : {B C : Type 0} (f : B → C) (v : C → ℕ) (same_time : Bool) (ops : List (ValueOp B)) (stores : List (Store B)) → ops_on same_time v (map (map_op f) ops) (map (map_store f) stores) ≡ map (map_store f) (ops_on same_time (λ (b : B). v (f b)) ops stores)
 unfolding ops_on
 ops-map f v same_time [] stores = refl
 ops-map {B} f v same_time (op ∷ ops) stores =
@@ -162,14 +162,14 @@ columns_in-map f [] table = refl
 columns_in-map f (t ∷ stores) zero = refl
 columns_in-map f (t ∷ stores) (suc table) = columns_in-map f stores table
 
-placed_op-map : {B C : Type 0} (f : B → C) (v : C → ℕ) (op : Op B) (stores : List (Store B)) → placed_op v (map_op f op) (map (map_store f) stores) ≡ map_rank_op f (placed_op (λ (b : B). v (f b)) op stores)
+placed_op-map : {B C : Type 0} (f : B → C) (v : C → ℕ) (op : ValueOp B) (stores : List (Store B)) → placed_op v (map_op f op) (map (map_store f) stores) ≡ map_rank_op f (placed_op (λ (b : B). v (f b)) op stores)
 unfolding placed_op map_op map_rank_op
-placed_op-map f v (Insert table cells) stores =
+placed_op-map f v (InsertCells table cells) stores =
     ap (λ (places : List Place). InsertAt table places (map f cells))
     (ap (λ (cs : List (Column _)). places_by v cs (map f cells)) (columns_in-map f stores table) ∙ places_by-map f v (columns_in stores table) cells)
-placed_op-map f v (Delete table numbers) stores = refl
+placed_op-map f v (DeleteRows table numbers) stores = refl
 
-placed_ops-map : {B C : Type 0} (f : B → C) (v : C → ℕ) (same_time : Bool) (ops : List (Op B)) (stores : List (Store B)) → placed_ops same_time v (map (map_op f) ops) (map (map_store f) stores) ≡ map (map_rank_op f) (placed_ops same_time (λ (b : B). v (f b)) ops stores)
+placed_ops-map : {B C : Type 0} (f : B → C) (v : C → ℕ) (same_time : Bool) (ops : List (ValueOp B)) (stores : List (Store B)) → placed_ops same_time v (map (map_op f) ops) (map (map_store f) stores) ≡ map (map_rank_op f) (placed_ops same_time (λ (b : B). v (f b)) ops stores)
 unfolding placed_ops
 placed_ops-map f v same_time [] stores = refl
 placed_ops-map {B} {C} f v same_time (op ∷ ops) stores =
@@ -193,8 +193,8 @@ kept_numbers-map : {B C : Type 0} (f : B → C) (kept : List (Kept B)) → kept_
 unfolding kept_numbers map_kept
 kept_numbers-map {B} {C} f kept = map-map (λ (row : Kept C). row.number) (map_kept f) kept
 
-fits_at-map : {B C : Type 0} (f : B → C) (limit : ℕ) (op : RankOp B) (shelves : List (Shelf B)) → FitsAt limit op shelves → FitsAt limit (map_rank_op f op) (map (map_shelf f) shelves)
-unfolding FitsAt map_rank_op map_shelf
+fits_at-map : {B C : Type 0} (f : B → C) (limit : ℕ) (op : RankOp B) (shelves : List (Shelf B)) → OpFitsAt limit op shelves → OpFitsAt limit (map_rank_op f op) (map (map_shelf f) shelves)
+unfolding OpFitsAt map_rank_op map_shelf
 fits_at-map {B} {C} f limit (InsertAt table places bodies) shelves fits =
     let s = shelf_at shelves table in
     let is = shelf_at-map f shelves table in
@@ -242,21 +242,21 @@ same-in (t ∷ stores) (u ∷ others) (suc table) same =
     let rest = same-in stores others table same.1 in
     record { many = ap suc rest.many; rows = rest.rows; items = rest.items }
 
-fits-same : {B : Type 0} (limit : ℕ) (op : Op B) (stores others : List (Store B)) → AllSame stores others → Fits limit op stores → Fits limit op others
-unfolding Fits
-fits-same limit (Insert table cells) stores others same fits =
+fits-same : {B : Type 0} (limit : ℕ) (op : ValueOp B) (stores others : List (Store B)) → AllSame stores others → OpFits limit op stores → OpFits limit op others
+unfolding OpFits
+fits-same limit (InsertCells table cells) stores others same fits =
     let at = same-in stores others table same in
     let width = sym (length-map (columns_in stores table) items_of) ∙ ap length at.items ∙ length-map (columns_in others table) items_of in
     record { there = omega (arith, fits.there, at.many); wide = fits.wide ∙ width; room = omega (arith, fits.room, ap length at.rows) }
-fits-same limit (Delete table numbers) stores others same fits =
+fits-same limit (DeleteRows table numbers) stores others same fits =
     let at = same-in stores others table same in
     record { there = omega (arith, fits.there, at.many); some = fits.some; rise = fits.rise; live = subst (λ (rows : List (Row _)). AllAmong (numbers_of rows) numbers) at.rows fits.live }
 
-placed-same : {B : Type 0} (v : B → ℕ) (op : Op B) (stores others : List (Store B)) → AllSame stores others → placed_op v op stores ≡ placed_op v op others
+placed-same : {B : Type 0} (v : B → ℕ) (op : ValueOp B) (stores others : List (Store B)) → AllSame stores others → placed_op v op stores ≡ placed_op v op others
 unfolding placed_op
-placed-same v (Insert table cells) stores others same =
+placed-same v (InsertCells table cells) stores others same =
     ap (λ (places : List Place). InsertAt table places cells) (places_by-same v (columns_in stores table) (columns_in others table) cells (same-in stores others table same).items)
-placed-same v (Delete table numbers) stores others same = refl
+placed-same v (DeleteRows table numbers) stores others same = refl
 
 changed-same : {B : Type 0} (v : B → ℕ) (same_time : Bool) (limit : ℕ) (f : Store B → Store B) → ((t u : Store B) → Sound B v same_time limit t → Sound B v same_time limit u → Same B t u → Same B (f t) (f u))
     → (stores others : List (Store B)) (table : ℕ) → AllSound v same_time limit stores → AllSound v same_time limit others → AllSame stores others → AllSame (change_at f stores table) (change_at f others table)
@@ -267,14 +267,14 @@ changed-same v same_time limit f each (t ∷ stores) [] table sound_t sound_u sa
 changed-same v same_time limit f each (t ∷ stores) (u ∷ others) zero sound_t sound_u same = (each t u sound_t.0 sound_u.0 same.0, same.1)
 changed-same v same_time limit f each (t ∷ stores) (u ∷ others) (suc table) sound_t sound_u same = (same.0, changed-same v same_time limit f each stores others table sound_t.1 sound_u.1 same.1)
 
-op-same : {B : Type 0} (v : B → ℕ) (same_time : Bool) (limit : ℕ) (op : Op B) (stores others : List (Store B)) → AllSound v same_time limit stores → AllSound v same_time limit others → AllSame stores others → AllSame (op_on same_time v op stores) (op_on same_time v op others)
+op-same : {B : Type 0} (v : B → ℕ) (same_time : Bool) (limit : ℕ) (op : ValueOp B) (stores others : List (Store B)) → AllSound v same_time limit stores → AllSound v same_time limit others → AllSame stores others → AllSame (op_on same_time v op stores) (op_on same_time v op others)
 unfolding op_on
-op-same v same_time limit (Insert table cells) stores others sound_t sound_u same =
+op-same v same_time limit (InsertCells table cells) stores others sound_t sound_u same =
     changed-same v same_time limit (insert_cells same_time v cells) (λ t u s_t s_u e. (same_behaves v same_time limit t u s_t s_u e).inserts cells) stores others table sound_t sound_u same
-op-same v same_time limit (Delete table numbers) stores others sound_t sound_u same =
+op-same v same_time limit (DeleteRows table numbers) stores others sound_t sound_u same =
     changed-same v same_time limit (delete_numbers same_time v numbers) (λ t u s_t s_u e. (same_behaves v same_time limit t u s_t s_u e).deletes_each numbers) stores others table sound_t sound_u same
 
-pub ops_on_same : {B : Type 0} (v : B → ℕ) (same_time : Bool) (limit : ℕ) (ops : List (Op B)) (stores others : List (Store B)) → AllSound v same_time limit stores → AllSound v same_time limit others → AllSame stores others → AllFit same_time v limit ops stores → AllDoSame B v same_time limit ops stores others
+pub ops_on_same : {B : Type 0} (v : B → ℕ) (same_time : Bool) (limit : ℕ) (ops : List (ValueOp B)) (stores others : List (Store B)) → AllSound v same_time limit stores → AllSound v same_time limit others → AllSame stores others → AllFit same_time v limit ops stores → AllDoSame B v same_time limit ops stores others
 unfolding AllFit placed_ops ops_on
 ops_on_same v same_time limit [] stores others sound_t sound_u same fit = record { fit = tt; placed = refl; same = same }
 ops_on_same {B} v same_time limit (op ∷ ops) stores others sound_t sound_u same fit =

@@ -8,7 +8,7 @@ use Rattle.tree_model.specs.Tallies.{IsOneMore}
 use Rattle.tree_model.proofs.Ordered.{held_at-below, holds-cons_eq}
 use Rattle.table_model.specs.Stores.{Row, Kept, ranks_by, kept_of}
 use Rattle.table_model.specs.Steps.{operate, follow, kept_after, adds, drops, only, rank_in, places_by}
-use Rattle.table_model.specs.Soundness.{value_at, values_at, column_at, SoundColumn}
+use Rattle.table_model.specs.Soundness.{cell_value, column_values, column_at, SoundColumn}
 use Rattle.table_model.proofs.Following.{keys, Owned, owned-within, carried-nothing, carried-add, carried-lay, below-add, rank_in-place, sound-add, sound-drop, sound-lay}
 
 abbrev pub value_in : {B : Type 0} → (B → ℕ) → List B → ℕ → ℕ
@@ -70,14 +70,14 @@ held-cons x y xs h = either (eqb y x) (holds x xs) h
 
 pub rows-follow : {B : Type 0} (v : B → ℕ) (same_time : Bool) (steps : List (List (Operation B))) (cs : List (Column B)) (Good : ℕ → ℕ → Type 0) (rows : List (Row B))
     → ((cells : List B) → ((i : ℕ) → i < length cs → Good i (value_in v cells i)) → ranks_by v (operate same_time steps cs) cells ≡ follow same_time steps cs (ranks_by v cs cells))
-    → ((i x : ℕ) → i < length cs → holds x (values_at v i rows) ≡ true → Good i x)
+    → ((i x : ℕ) → i < length cs → holds x (column_values v i rows) ≡ true → Good i x)
     → map (kept_of v (operate same_time steps cs)) rows ≡ map (kept_after same_time steps cs) (map (kept_of v cs) rows)
-unfolding values_at value_at kept_of kept_after
+unfolding column_values cell_value kept_of kept_after
 rows-follow v same_time steps cs Good [] one good = refl
 rows-follow {B} v same_time steps cs Good (row ∷ rows) one good =
     ap₂ (λ (ranks : List ℕ) (rest : List (Kept B)). let r : Kept B = record { number = row.number; bodies = row.cells; ranks = ranks } in r ∷ rest)
-    (one row.cells (λ i h. good i (value_in v row.cells i) h (holds-cons_eq (value_in v row.cells i) (value_in v row.cells i) (values_at v i rows) refl)))
-    (rows-follow v same_time steps cs Good rows one (λ i x h held. good i x h (held-cons x (value_in v row.cells i) (values_at v i rows) held)))
+    (one row.cells (λ i h. good i (value_in v row.cells i) h (holds-cons_eq (value_in v row.cells i) (value_in v row.cells i) (column_values v i rows) refl)))
+    (rows-follow v same_time steps cs Good rows one (λ i x h held. good i x h (held-cons x (value_in v row.cells i) (column_values v i rows) held)))
 
 -- ---- columns
 

@@ -9,7 +9,7 @@ use Rattle.tree_model.proofs.Ordered.{held_at-below, holds-cons_eq}
 use Rattle.table_model.specs.Stores.{Row, Store, Kept, Shelf, empty_store, empty_shelf, map_kept, map_shelf, ranks_by, kept_of, shelf_of}
 use Rattle.table_model.specs.Steps.{places_by}
 use Rattle.table_model.specs.Changes.{insert_row, delete_row, delete_rows, lay_column}
-use Rattle.table_model.specs.Soundness.{value_at, values_at, readings_at, ranks_at, column_at, AllWide, Sound}
+use Rattle.table_model.specs.Soundness.{cell_value, column_values, readings_at, ranks_at, column_at, AllWide, Sound}
 use Rattle.table_model.specs.Standing.{Stands}
 use Rattle.table_model.specs.StandingLaws.{KeepsStanding}
 use Rattle.table_model.proofs.Lists.{map-map, map-same}
@@ -69,17 +69,17 @@ rank-at v (c ∷ cs) (cell ∷ cells) zero h wide = refl
 rank-at v (c ∷ cs) (cell ∷ cells) (suc i) h wide = rank-at v cs cells i (omega (arith, h)) (omega (arith, wide))
 
 -- in a table by value, the items at the rows' ranks have the rows' values
-pub ranks-read : {B : Type 0} (v : B → ℕ) (cs : List (Column B)) (column : ℕ) (rows : List (Row B)) → column < length cs → AllWide (length cs) rows → ((x : ℕ) → holds x (values_at v column rows) ≡ true → Owned B v (column_at cs column) x)
-    → map (λ (rank : ℕ). get_or (keys v (column_at cs column)) rank 0) (ranks_at column (map (kept_of v cs) rows)) ≡ values_at v column rows
-unfolding ranks_at kept_of values_at value_at AllWide
+pub ranks-read : {B : Type 0} (v : B → ℕ) (cs : List (Column B)) (column : ℕ) (rows : List (Row B)) → column < length cs → AllWide (length cs) rows → ((x : ℕ) → holds x (column_values v column rows) ≡ true → Owned B v (column_at cs column) x)
+    → map (λ (rank : ℕ). get_or (keys v (column_at cs column)) rank 0) (ranks_at column (map (kept_of v cs) rows)) ≡ column_values v column rows
+unfolding ranks_at kept_of column_values cell_value AllWide
 ranks-read v cs column [] h wide own = refl
 ranks-read v cs column (row ∷ rows) h wide own =
     let x = value_in v row.cells column in
     let xs = keys v (column_at cs column) in
-    let mine = own x (holds-cons_eq x x (values_at v column rows) refl) in
+    let mine = own x (holds-cons_eq x x (column_values v column rows) refl) in
     ap₂ (λ (y : ℕ) (rest : List ℕ). y ∷ rest)
     (ap (λ (rank : ℕ). get_or xs rank 0) (rank-at v cs row.cells column h wide.0) ∙ (held_at-below x xs 0 mine.rise mine.held).1)
-    (ranks-read v cs column rows h wide.1 (λ y held. own y (held-cons y x (values_at v column rows) held)))
+    (ranks-read v cs column rows h wide.1 (λ y held. own y (held-cons y x (column_values v column rows) held)))
 
 values-read : {B C : Type 0} (seal : C → B) (v : C → ℕ) (u : B → ℕ) (items : List (Item C)) → ((c : C) → u (seal c) ≡ v c) → values (λ (c : C). u (seal c)) items ≡ values v items
 unfolding values
@@ -88,8 +88,8 @@ values-read {B} {C} seal v u items says = map-same (λ (item : Item C). u (seal 
 cells-read : {B C : Type 0} (seal : C → B) (v : C → ℕ) (u : B → ℕ) (cells : List C) → ((c : C) → u (seal c) ≡ v c) → map u (map seal cells) ≡ map v cells
 cells-read {B} {C} seal v u cells says = map-map u seal cells ∙ map-same (λ (c : C). u (seal c)) v cells says
 
-readings-sealed : {B C : Type 0} (seal : C → B) (v : C → ℕ) (cs : List (Column C)) (u : B → ℕ) (column : ℕ) (rows : List (Row C)) → ((c : C) → u (seal c) ≡ v c) → readings_at u column (map (map_kept seal) (map (kept_of v cs) rows)) ≡ values_at v column rows
-unfolding readings_at map_kept kept_of values_at value_at
+readings-sealed : {B C : Type 0} (seal : C → B) (v : C → ℕ) (cs : List (Column C)) (u : B → ℕ) (column : ℕ) (rows : List (Row C)) → ((c : C) → u (seal c) ≡ v c) → readings_at u column (map (map_kept seal) (map (kept_of v cs) rows)) ≡ column_values v column rows
+unfolding readings_at map_kept kept_of column_values cell_value
 readings-sealed seal v cs u column [] says = refl
 readings-sealed seal v cs u column (row ∷ rows) says =
     ap₂ (λ (x : ℕ) (rest : List ℕ). x ∷ rest) (ap (λ (xs : List ℕ). get_or xs column 0) (cells-read seal v u row.cells says)) (readings-sealed seal v cs u column rows says)

@@ -1,7 +1,7 @@
 -- Several tables by rank that stand for tables by value.
 use Rattle.std.proofs.Common.{◌≡◌, ℕ, Bool, false, List, [], ◌∷◌, map, refl, ap, ap₂, ◌∙◌, sym, subst}
 use Rattle.table_model.specs.Stores.{Store, Shelf, empty_store, empty_shelf, map_shelf, shelf_of}
-use Rattle.table_model.specs.Operations.{Op, RankOp, rank_ops_on, install_on, rank_install_on, placed_ops, map_rank_op, AllSound, AllSame}
+use Rattle.table_model.specs.Operations.{ValueOp, RankOp, rank_ops_on, install_on, rank_install_on, placed_ops, map_rank_op, AllSound, AllSame}
 use Rattle.table_model.specs.Fitting.{AllFit, AllFitAt}
 use Rattle.table_model.specs.Standing.{AllStand}
 use Rattle.table_model.specs.StandingLaws.{OpsStand}
@@ -9,7 +9,7 @@ use Rattle.table_model.proofs.Sound.{empty-sound}
 use Rattle.table_model.proofs.Sealed.{empty_stands}
 use Rattle.table_model.proofs.Ops.{ops_are_by_rank, operations_are_blind, ops_on_same, installs_are_by_rank, installs_are_blind}
 
-pub operations_stand : {B C : Type 0} (seal : C → B) (v : C → ℕ) (same_time : Bool) (limit : ℕ) (ops : List (Op C)) (base stores : List (Store C)) (shelves : List (Shelf B)) → AllStand B C seal v same_time limit shelves stores → AllSound v same_time limit base → AllSame base stores → AllFit same_time v limit ops base
+pub operations_stand : {B C : Type 0} (seal : C → B) (v : C → ℕ) (same_time : Bool) (limit : ℕ) (ops : List (ValueOp C)) (base stores : List (Store C)) (shelves : List (Shelf B)) → AllStand B C seal v same_time limit shelves stores → AllSound v same_time limit base → AllSame base stores → AllFit same_time v limit ops base
     → OpsStand B C seal v same_time limit ops (map (map_rank_op seal) (placed_ops same_time v ops base)) shelves stores
 operations_stand {B} {C} seal v same_time limit ops base stores shelves stands sound same fit =
     let both = ops_on_same v same_time limit ops base stores sound stands.sound same fit in

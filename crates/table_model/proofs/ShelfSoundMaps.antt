@@ -17,7 +17,7 @@ use Rattle.tree_model.proofs.Ordered.{place-IsFound, found_of_place}
 use Rattle.tree_model.proofs.ColumnOrder.{IsKept-map, SuitsMode-map}
 use Rattle.tree_model.proofs.TalliedRows.{tallied_mapped}
 use Rattle.table_model.specs.Stores.{Row, Store, Kept, Shelf, map_kept, map_shelf, ranks_by, kept_of, shelf_of}
-use Rattle.table_model.specs.Soundness.{numbers_of, kept_numbers, value_at, values_at, ranks_at, column_at, AllWide, SoundColumn, Sound}
+use Rattle.table_model.specs.Soundness.{numbers_of, kept_numbers, cell_value, column_values, ranks_at, column_at, AllWide, SoundColumn, Sound}
 use Rattle.table_model.specs.Standing.{Stands}
 use Rattle.table_model.specs.ShelfSoundness.{AllFull, SoundRanks, SoundShelf}
 use Rattle.table_model.proofs.Lists.{map-map}
@@ -157,8 +157,8 @@ sound_column-shelf v same_time c rows s =
 
 -- ---- the table by rank of a sound table
 
-ranks_at-kept : {B : Type 0} (v : B → ℕ) (cs : List (Column B)) (i : ℕ) (rows : List (Row B)) → i < length cs → AllWide (length cs) rows → ranks_at i (map (kept_of v cs) rows) ≡ map (λ (x : ℕ). below x (keys v (column_at cs i))) (values_at v i rows)
-unfolding ranks_at kept_of values_at value_at AllWide
+ranks_at-kept : {B : Type 0} (v : B → ℕ) (cs : List (Column B)) (i : ℕ) (rows : List (Row B)) → i < length cs → AllWide (length cs) rows → ranks_at i (map (kept_of v cs) rows) ≡ map (λ (x : ℕ). below x (keys v (column_at cs i))) (column_values v i rows)
+unfolding ranks_at kept_of column_values cell_value AllWide
 ranks_at-kept v cs i [] h wide = refl
 ranks_at-kept v cs i (row ∷ rows) h wide = ap₂ (λ (rank : ℕ) (rest : List ℕ). rank ∷ rest) (rank-at v cs row.cells i h wide.0) (ranks_at-kept v cs i rows h wide.1)
 
@@ -187,7 +187,7 @@ shelf_of_sound {B} v same_time limit t s =
       full = full-kept v cs t.rows s.wide;
       columns = λ i h.
           subst (SoundRanks B same_time (column_at cs i)) (sym (ranks_at-kept v cs i t.rows h s.wide))
-          (sound_column-shelf v same_time (column_at cs i) (values_at v i t.rows) (s.columns i h));
+          (sound_column-shelf v same_time (column_at cs i) (column_values v i t.rows) (s.columns i h));
     }
 
 pub standing_shelf_is_sound : {B C : Type 0} (seal : C → B) (v : C → ℕ) (same_time : Bool) (limit : ℕ) (table : Shelf B) (t : Store C) → Stands B C seal v same_time limit table t → SoundShelf B same_time limit table

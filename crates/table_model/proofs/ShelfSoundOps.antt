@@ -21,13 +21,13 @@ use Rattle.tree_model.proofs.TalliedItems.{counts-less}
 use Rattle.table_model.specs.Stores.{Row, Store, Kept, Shelf, empty_store, empty_shelf, map_shelf, shelf_of}
 use Rattle.table_model.specs.Steps.{adds, drops, only, places_by}
 use Rattle.table_model.specs.Changes.{insert_row, delete_row, delete_rows, lay_column, ranks_of, cells_of, kept_without, rows_without, insert_cells, delete_number, lay_store}
-use Rattle.table_model.specs.Soundness.{numbers_of, kept_numbers, value_at, values_at, ranks_at, column_at, AllWide, Sound, FitsRows}
+use Rattle.table_model.specs.Soundness.{numbers_of, kept_numbers, cell_value, column_values, ranks_at, column_at, AllWide, Sound, FitsRows}
 use Rattle.table_model.specs.Fitting.{AllPlaced}
 use Rattle.table_model.specs.ShelfSoundness.{AllFull, SoundRanks, SoundShelf, RowsStay}
 use Rattle.table_model.specs.RankLaws.{ShelfStaysSound, LeavesRows, ShelfGives}
-use Rattle.table_model.proofs.Lists.{map-map, map-nothing, without-map, beside-map}
+use Rattle.table_model.proofs.Lists.{map-map, map-nothing, without-map, of_row-map}
 use Rattle.table_model.proofs.Maps.{shelves_are_blind}
-use Rattle.table_model.proofs.Numbers.{without-none, beside-none, one_without, held-later, held-new, wide-cells}
+use Rattle.table_model.proofs.Numbers.{without-none, of_row-none, one_without, held-later, held-new, wide-cells}
 use Rattle.table_model.proofs.Following.{length-items}
 use Rattle.table_model.proofs.Sound.{insert-sound, delete-sound, lay-sound, empty-sound, sound_fits_rows}
 use Rattle.table_model.proofs.Bridge.{shelf_of-insert, shelf_of-delete, shelf_of-lay, shelf_of-empty}
@@ -170,8 +170,8 @@ no-steps same_time i c rank h = stays-nothing same_time c rank h
 unfoldable pub bare_row : {B : Type 0} → Kept B → Row ℕ
 bare_row row = record { number = row.number; cells = row.ranks }
 
-bare-values : {B : Type 0} (i : ℕ) (kept : List (Kept B)) → values_at itself i (map bare_row kept) ≡ ranks_at i kept
-unfolding values_at value_at ranks_at bare_row
+bare-values : {B : Type 0} (i : ℕ) (kept : List (Kept B)) → column_values itself i (map bare_row kept) ≡ ranks_at i kept
+unfolding column_values cell_value ranks_at bare_row
 bare-values i [] = refl
 bare-values i (row ∷ kept) = ap₂ (λ (x : ℕ) (rest : List ℕ). x ∷ rest) (ap (λ (xs : List ℕ). get_or xs i 0) (map-nothing itself row.ranks (λ x. refl))) (bare-values i kept)
 
@@ -181,7 +181,7 @@ bare-numbers kept = map-map (λ (row : Row ℕ). row.number) bare_row kept
 
 bare-ranks : {B : Type 0} (number : ℕ) (kept : List (Kept B)) → cells_of number (map bare_row kept) ≡ ranks_of number kept
 unfolding cells_of ranks_of bare_row
-bare-ranks {B} number kept = beside-map bare_row (λ (ranks : List ℕ). ranks) (λ (row : Kept B). row.number) (λ (row : Row ℕ). row.number) (λ (row : Kept B). row.ranks) (λ (row : Row ℕ). row.cells) number kept (λ row. refl) (λ row. refl) refl
+bare-ranks {B} number kept = of_row-map bare_row (λ (ranks : List ℕ). ranks) (λ (row : Kept B). row.number) (λ (row : Row ℕ). row.number) (λ (row : Kept B). row.ranks) (λ (row : Row ℕ). row.cells) number kept (λ row. refl) (λ row. refl) refl
 
 bare-without : {B : Type 0} (number : ℕ) (kept : List (Kept B)) → rows_without number (map bare_row kept) ≡ map bare_row (kept_without number kept)
 unfolding rows_without kept_without bare_row
@@ -193,10 +193,10 @@ one_rank_without i number kept there =
     let rows = map bare_row kept in
     let one = one_without itself i number rows (ap (holds number) (bare-numbers kept) ∙ there) in
     let key = ap (λ (xs : List ℕ). get_or xs i 0) (map-nothing itself (cells_of number rows) (λ x. refl) ∙ bare-ranks number kept) in
-    let earlier = ap (values_at itself i) (bare-without number kept) ∙ bare-values i (kept_without number kept) in
+    let earlier = ap (column_values itself i) (bare-without number kept) ∙ bare-values i (kept_without number kept) in
     subst (λ (k : ℕ). IsOneMore k (ranks_at i (kept_without number kept)) (ranks_at i kept)) key
     (subst (λ (xs : List ℕ). IsOneMore (get_or (map itself (cells_of number rows)) i 0) xs (ranks_at i kept)) earlier
-    (subst (IsOneMore (get_or (map itself (cells_of number rows)) i 0) (values_at itself i (rows_without number rows))) (bare-values i kept) one))
+    (subst (IsOneMore (get_or (map itself (cells_of number rows)) i 0) (column_values itself i (rows_without number rows))) (bare-values i kept) one))
 
 bare-wide : {B : Type 0} (width : ℕ) (kept : List (Kept B)) → AllFull width kept → AllWide width (map bare_row kept)
 unfolding AllFull AllWide bare_row
@@ -205,7 +205,7 @@ bare-wide width (row ∷ kept) full = (full.1, bare-wide width kept full.2)
 
 pub no-ranks : {B : Type 0} (number : ℕ) (kept : List (Kept B)) → holds number (kept_numbers kept) ≡ false → ranks_of number kept ≡ []
 unfolding ranks_of kept_numbers
-no-ranks {B} number kept none = beside-none (λ (row : Kept B). row.number) (λ (row : Kept B). row.ranks) number kept none
+no-ranks {B} number kept none = of_row-none (λ (row : Kept B). row.number) (λ (row : Kept B). row.ranks) number kept none
 
 pub no-row : {B : Type 0} (number : ℕ) (kept : List (Kept B)) → holds number (kept_numbers kept) ≡ false → kept_without number kept ≡ kept
 unfolding kept_without kept_numbers

@@ -5,7 +5,7 @@ use Rattle.tree_model.specs.Items.{change_at}
 use Rattle.table_model.specs.Stores.{Shelf, empty_shelf}
 use Rattle.table_model.specs.Changes.{insert_row, delete_rows, lay_column}
 use Rattle.table_model.specs.Operations.{RankOp, InsertAt, DeleteAt, rank_op_on, rank_ops_on, rank_install_on, shelf_at}
-use Rattle.table_model.specs.Fitting.{AllPlaced, FitsAt, AllFitAt}
+use Rattle.table_model.specs.Fitting.{AllPlaced, OpFitsAt, AllFitAt}
 use Rattle.table_model.specs.ShelfSoundness.{SoundShelf, AllSoundShelves}
 use Rattle.table_model.specs.RankLaws.{KeepsAllSoundShelves}
 use Rattle.table_model.proofs.ShelfSoundOps.{operations_keep_shelf, empty_shelf_is_sound}
@@ -23,8 +23,8 @@ changed-shelf same_time limit f each [] table sound = sound
 changed-shelf same_time limit f each (s ∷ shelves) zero sound = (each s sound.0, sound.1)
 changed-shelf same_time limit f each (s ∷ shelves) (suc table) sound = (sound.0, changed-shelf same_time limit f each shelves table sound.1)
 
-pub op-shelf : {B : Type 0} (same_time : Bool) (limit : ℕ) (op : RankOp B) (shelves : List (Shelf B)) → AllSoundShelves same_time limit shelves → FitsAt limit op shelves → AllSoundShelves same_time limit (rank_op_on same_time op shelves)
-unfolding rank_op_on FitsAt
+pub op-shelf : {B : Type 0} (same_time : Bool) (limit : ℕ) (op : RankOp B) (shelves : List (Shelf B)) → AllSoundShelves same_time limit shelves → OpFitsAt limit op shelves → AllSoundShelves same_time limit (rank_op_on same_time op shelves)
+unfolding rank_op_on OpFitsAt
 op-shelf same_time limit (InsertAt table places bodies) shelves sound fits = inserts-shelf same_time limit places bodies shelves table fits.placed fits.wide fits.room sound
 op-shelf same_time limit (DeleteAt table numbers) shelves sound fits = changed-shelf same_time limit (delete_rows same_time numbers) (λ s w. (operations_keep_shelf same_time limit s w).deletes_each numbers) shelves table sound
 

@@ -17,29 +17,29 @@ use Rattle.tree_model.proofs.TalliedItems.{most_within_rows}
 use Rattle.table_model.specs.Stores.{Row, Store, empty_store, ranks_by}
 use Rattle.table_model.specs.Steps.{operate, adds, drops, only, places_by}
 use Rattle.table_model.specs.Changes.{cells_of, rows_without, insert_cells, delete_number, delete_numbers, lay_store}
-use Rattle.table_model.specs.Soundness.{numbers_of, value_at, values_at, column_at, AllWide, SoundColumn, Sound, FitsRows, OwnItem}
+use Rattle.table_model.specs.Soundness.{numbers_of, cell_value, column_values, column_at, AllWide, SoundColumn, Sound, FitsRows, OwnItem}
 use Rattle.table_model.specs.StoreLaws.{StaysSound}
 use Rattle.table_model.proofs.Following.{keys, Owned, owned-within}
-use Rattle.table_model.proofs.Numbers.{without-none, beside-none, one_without, held-new, wide-without, wide-cells, wide-last, length-without, numbered-without, rising-last}
+use Rattle.table_model.proofs.Numbers.{without-none, of_row-none, one_without, held-new, wide-without, wide-cells, wide-last, length-without, numbered-without, rising-last}
 use Rattle.table_model.proofs.Rows.{value_in, length-operate, sound-adds, sound-drops, sound-lays}
 
 -- ---- what soundness gives
 
 -- the values that rows have in a column are among its items'
-pub owned-of : {B : Type 0} (v : B → ℕ) (same_time : Bool) (limit : ℕ) (t : Store B) → Sound B v same_time limit t → (i x : ℕ) → i < length t.columns → holds x (values_at v i t.rows) ≡ true → Owned B v (column_at t.columns i) x
+pub owned-of : {B : Type 0} (v : B → ℕ) (same_time : Bool) (limit : ℕ) (t : Store B) → Sound B v same_time limit t → (i x : ℕ) → i < length t.columns → holds x (column_values v i t.rows) ≡ true → Owned B v (column_at t.columns i) x
 owned-of v same_time limit t sound i x h held =
     let tallied = (sound.columns i h).tallied in
     record { rise = tallied.rise; held = tallied.held x held }
 
 -- ---- rows
 
-pub values-last : {B : Type 0} (v : B → ℕ) (column : ℕ) (rows : List (Row B)) (row : Row B) → values_at v column (rows ++ row ∷ []) ≡ values_at v column rows ++ value_in v row.cells column ∷ []
-unfolding values_at value_at
-values-last v column rows row = map-append (value_at v column) rows (row ∷ [])
+pub values-last : {B : Type 0} (v : B → ℕ) (column : ℕ) (rows : List (Row B)) (row : Row B) → column_values v column (rows ++ row ∷ []) ≡ column_values v column rows ++ value_in v row.cells column ∷ []
+unfolding column_values cell_value
+values-last v column rows row = map-append (cell_value v column) rows (row ∷ [])
 
-one-last : {B : Type 0} (v : B → ℕ) (column : ℕ) (rows : List (Row B)) (row : Row B) → IsOneMore (value_in v row.cells column) (values_at v column rows) (values_at v column (rows ++ row ∷ []))
+one-last : {B : Type 0} (v : B → ℕ) (column : ℕ) (rows : List (Row B)) (row : Row B) → IsOneMore (value_in v row.cells column) (column_values v column rows) (column_values v column (rows ++ row ∷ []))
 one-last v column rows row =
-    subst (IsOneMore (value_in v row.cells column) (values_at v column rows)) (sym (values-last v column rows row)) (tally-last (values_at v column rows) (value_in v row.cells column))
+    subst (IsOneMore (value_in v row.cells column) (column_values v column rows)) (sym (values-last v column rows row)) (tally-last (column_values v column rows) (value_in v row.cells column))
 
 numbers-last : {B : Type 0} (rows : List (Row B)) (row : Row B) → numbers_of (rows ++ row ∷ []) ≡ numbers_of rows ++ row.number ∷ []
 unfolding numbers_of
@@ -57,7 +57,7 @@ insert-sound {B} v same_time limit t sound cells wide room =
       few = omega (arith, room, length-append t.rows (row ∷ []));
       numbered = subst (λ (numbers : List ℕ). IsIncreasing (numbers ++ suc t.next ∷ [])) (sym (numbers-last t.rows row)) (rising-last t.next (numbers_of t.rows) sound.numbered);
       wide = wide-last (length (operate same_time steps t.columns)) t.rows row (subst (λ (n : ℕ). AllWide n t.rows) (sym many) sound.wide) (wide ∙ sym many);
-      columns = λ i h. sound-adds v same_time t.columns cells (λ (j : ℕ). values_at v j t.rows) (λ (j : ℕ). values_at v j (t.rows ++ row ∷ [])) wide sound.columns (λ j k. one-last v j t.rows row) i (omega (arith, h, many));
+      columns = λ i h. sound-adds v same_time t.columns cells (λ (j : ℕ). column_values v j t.rows) (λ (j : ℕ). column_values v j (t.rows ++ row ∷ [])) wide sound.columns (λ j k. one-last v j t.rows row) i (omega (arith, h, many));
     }
 
 -- ---- DELETE
@@ -75,7 +75,7 @@ no_drops v same_time (c ∷ cs) = refl
 
 pub cells-none : {B : Type 0} (number : ℕ) (rows : List (Row B)) → has_number number rows ≡ false → cells_of number rows ≡ []
 unfolding cells_of numbers_of
-cells-none {B} number rows none = beside-none (λ (row : Row B). row.number) (λ (row : Row B). row.cells) number rows none
+cells-none {B} number rows none = of_row-none (λ (row : Row B). row.number) (λ (row : Row B). row.cells) number rows none
 
 pub rows-none : {B : Type 0} (number : ℕ) (rows : List (Row B)) → has_number number rows ≡ false → rows_without number rows ≡ rows
 unfolding rows_without numbers_of
@@ -93,7 +93,7 @@ delete-none {B} v same_time number t none =
 pub owned-gone : {B : Type 0} (v : B → ℕ) (same_time : Bool) (limit : ℕ) (t : Store B) (number : ℕ) → Sound B v same_time limit t → has_number number t.rows ≡ true → (i : ℕ) → i < length t.columns → Owned B v (column_at t.columns i) (value_in v (cells_of number t.rows) i)
 owned-gone v same_time limit t number sound there i h =
     let key = value_in v (cells_of number t.rows) i in
-    owned-of v same_time limit t sound i key h (held-new key (values_at v i (rows_without number t.rows)) (values_at v i t.rows) (one_without v i number t.rows there))
+    owned-of v same_time limit t sound i key h (held-new key (column_values v i (rows_without number t.rows)) (column_values v i t.rows) (one_without v i number t.rows there))
 
 length_rows : {B : Type 0} (number : ℕ) (rows : List (Row B)) → length (rows_without number rows) ≤ length rows
 unfolding rows_without
@@ -109,7 +109,7 @@ delete-there {B} v same_time limit t number sound there =
       few = omega (arith, sound.few, length_rows number t.rows);
       numbered = numbered-without number t.next t.rows sound.numbered;
       wide = subst (λ (n : ℕ). AllWide n (rows_without number t.rows)) (sym many) (wide-without (length t.columns) number t.rows sound.wide);
-      columns = λ i h. sound-drops v same_time t.columns gone (λ (j : ℕ). values_at v j t.rows) (λ (j : ℕ). values_at v j (rows_without number t.rows)) (wide-cells (length t.columns) number t.rows sound.wide there)
+      columns = λ i h. sound-drops v same_time t.columns gone (λ (j : ℕ). column_values v j t.rows) (λ (j : ℕ). column_values v j (rows_without number t.rows)) (wide-cells (length t.columns) number t.rows sound.wide there)
           sound.columns (owned-gone v same_time limit t number sound there) (λ j k. one_without v j number t.rows there) i (omega (arith, h, many));
     }
 
@@ -136,7 +136,7 @@ lay-sound {B} v same_time limit t sound column =
       few = sound.few;
       numbered = sound.numbered;
       wide = subst (λ (n : ℕ). AllWide n t.rows) (sym many) sound.wide;
-      columns = λ i h. sound-lays v same_time column t.columns (λ (j : ℕ). values_at v j t.rows) sound.columns i (omega (arith, h, many));
+      columns = λ i h. sound-lays v same_time column t.columns (λ (j : ℕ). column_values v j t.rows) sound.columns i (omega (arith, h, many));
     }
 
 pub operations_keep_sound : {B : Type 0} (v : B → ℕ) (same_time : Bool) (limit : ℕ) (t : Store B) → Sound B v same_time limit t → StaysSound B v same_time limit t
@@ -162,7 +162,7 @@ column-empty B (suc n) zero = refl
 column-empty B (suc n) (suc i) = column-empty B n i
 
 pub empty-sound : {B : Type 0} (v : B → ℕ) (same_time : Bool) (limit columns : ℕ) → Sound B v same_time limit (empty_store B columns)
-unfolding empty_store numbers_of AllWide values_at IsIncreasing IsBelowAll
+unfolding empty_store numbers_of AllWide column_values IsIncreasing IsBelowAll
 empty-sound {B} v same_time limit columns =
     record {
       few = omega arith;
@@ -173,9 +173,9 @@ empty-sound {B} v same_time limit columns =
 
 -- ---- what follows
 
-pub length_values : {B : Type 0} (v : B → ℕ) (column : ℕ) (rows : List (Row B)) → length (values_at v column rows) ≡ length rows
-unfolding values_at
-length_values v column rows = length-map rows (value_at v column)
+pub length_values : {B : Type 0} (v : B → ℕ) (column : ℕ) (rows : List (Row B)) → length (column_values v column rows) ≡ length rows
+unfolding column_values
+length_values v column rows = length-map rows (cell_value v column)
 
 one_if_within : (b : Bool) (n : ℕ) → one_if b n ≤ suc n
 unfolding one_if
@@ -207,7 +207,7 @@ pub sound_fits_rows : {B : Type 0} (v : B → ℕ) (same_time : Bool) (limit : �
 sound_fits_rows v same_time limit t column sound h =
     let c = column_at t.columns column in
     let s = sound.columns column h in
-    let rows = values_at v column t.rows in
+    let rows = column_values v column t.rows in
     let many : 2 * c.most ≤ 3 * length t.rows = omega (arith, most_within_rows v c rows s.tallied s.kept.dense, length_values v column t.rows) in
     let twice : 2 * c.most ≤ 3 * limit = omega (arith, many, sound.few) in
     record {
@@ -219,10 +219,10 @@ sound_fits_rows v same_time limit t column sound h =
       any = λ h. IsKept-short c s.kept (omega (arith, twice, h));
     }
 
-pub rows_own_items : {B : Type 0} (v : B → ℕ) (same_time : Bool) (limit : ℕ) (t : Store B) (column row d : ℕ) → Sound B v same_time limit t → column < length t.columns → row < length t.rows → OwnItem B v (column_at t.columns column) (get_or (values_at v column t.rows) row 0) d
+pub rows_own_items : {B : Type 0} (v : B → ℕ) (same_time : Bool) (limit : ℕ) (t : Store B) (column row d : ℕ) → Sound B v same_time limit t → column < length t.columns → row < length t.rows → OwnItem B v (column_at t.columns column) (get_or (column_values v column t.rows) row 0) d
 rows_own_items v same_time limit t column row d sound h k =
-    let x = get_or (values_at v column t.rows) row 0 in
-    let own = owned-of v same_time limit t sound column x h (holds-at (values_at v column t.rows) row 0 (omega (arith, k, length_values v column t.rows))) in
+    let x = get_or (column_values v column t.rows) row 0 in
+    let own = owned-of v same_time limit t sound column x h (holds-at (column_values v column t.rows) row 0 (omega (arith, k, length_values v column t.rows))) in
     let xs = keys v (column_at t.columns column) in
     record {
       within = owned-within v (column_at t.columns column) x own;

@@ -8,7 +8,7 @@ use Rattle.tree_model.specs.Columns.{Column, empty_column, items_of, map_column}
 use Rattle.tree_model.specs.Tallies.{Tallied, counts, TalliedItems}
 use Rattle.tree_model.proofs.ColumnOrder.{IsKept-map, SuitsMode-map}
 use Rattle.table_model.specs.Stores.{Row, Store, map_row, map_store}
-use Rattle.table_model.specs.Soundness.{numbers_of, value_at, values_at, column_at, AllWide, SoundColumn, Sound}
+use Rattle.table_model.specs.Soundness.{numbers_of, cell_value, column_values, column_at, AllWide, SoundColumn, Sound}
 use Rattle.table_model.proofs.Lists.{map-map, map-same}
 use Rattle.table_model.proofs.StoreMaps.{items-map, values-map}
 
@@ -32,11 +32,11 @@ column_at-map f [] i = refl
 column_at-map f (c ∷ cs) zero = refl
 column_at-map f (c ∷ cs) (suc i) = column_at-map f cs i
 
-pub values_at-map : {B C : Type 0} (f : B → C) (v : C → ℕ) (column : ℕ) (rows : List (Row B)) → values_at v column (map (map_row f) rows) ≡ values_at (λ (b : B). v (f b)) column rows
-unfolding values_at value_at map_row
-values_at-map {B} {C} f v column rows =
-    map-map (value_at v column) (map_row f) rows
-    ∙ map-same (λ (row : Row B). value_at v column (map_row f row)) (value_at (λ (b : B). v (f b)) column) rows (λ row. ap (λ (xs : List ℕ). get_or xs column 0) (map-map v f row.cells))
+pub column_values-map : {B C : Type 0} (f : B → C) (v : C → ℕ) (column : ℕ) (rows : List (Row B)) → column_values v column (map (map_row f) rows) ≡ column_values (λ (b : B). v (f b)) column rows
+unfolding column_values cell_value map_row
+column_values-map {B} {C} f v column rows =
+    map-map (cell_value v column) (map_row f) rows
+    ∙ map-same (λ (row : Row B). cell_value v column (map_row f row)) (cell_value (λ (b : B). v (f b)) column) rows (λ row. ap (λ (xs : List ℕ). get_or xs column 0) (map-map v f row.cells))
 
 numbers-map : {B C : Type 0} (f : B → C) (rows : List (Row B)) → numbers_of (map (map_row f) rows) ≡ numbers_of rows
 unfolding numbers_of map_row
@@ -56,7 +56,7 @@ sound_is_blind {B} {C} f v same_time limit t sound =
       numbered = subst (λ (numbers : List ℕ). IsIncreasing (numbers ++ t.next ∷ [])) (sym (numbers-map f t.rows)) sound.numbered;
       wide = subst (λ (n : ℕ). AllWide n (map (map_row f) t.rows)) (sym many) (wide-map f (length t.columns) t.rows sound.wide);
       columns = λ i h.
-          subst (λ (c : Column C). SoundColumn C v same_time c (values_at v i (map (map_row f) t.rows))) (sym (column_at-map f t.columns i))
-          (subst (SoundColumn C v same_time (map_column f (column_at t.columns i))) (sym (values_at-map f v i t.rows))
-          (sound_column-map f v same_time (column_at t.columns i) (values_at (λ (b : B). v (f b)) i t.rows) (sound.columns i (omega (arith, h, many)))));
+          subst (λ (c : Column C). SoundColumn C v same_time c (column_values v i (map (map_row f) t.rows))) (sym (column_at-map f t.columns i))
+          (subst (SoundColumn C v same_time (map_column f (column_at t.columns i))) (sym (column_values-map f v i t.rows))
+          (sound_column-map f v same_time (column_at t.columns i) (column_values (λ (b : B). v (f b)) i t.rows) (sound.columns i (omega (arith, h, many)))));
     }

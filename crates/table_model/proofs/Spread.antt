@@ -19,7 +19,7 @@ use Rattle.tree_model.proofs.Summed.{origins-nothing, map_column-tagged_zero}
 use Rattle.tree_model.proofs.TalliedRows.{tallied_mapped}
 use Rattle.table_model.specs.Stores.{Row, Store, Kept, Shelf, map_kept, map_shelf, ranks_by, kept_of, shelf_of}
 use Rattle.table_model.specs.Steps.{places_by}
-use Rattle.table_model.specs.Soundness.{numbers_of, kept_numbers, value_at, values_at, ranks_at, column_at, AllWide, SoundColumn, Sound}
+use Rattle.table_model.specs.Soundness.{numbers_of, kept_numbers, cell_value, column_values, ranks_at, column_at, AllWide, SoundColumn, Sound}
 use Rattle.table_model.specs.Fitting.{AllPlaced}
 use Rattle.table_model.specs.ShelfSoundness.{AllFull, SoundRanks, SoundShelf}
 use Rattle.table_model.proofs.Lists.{map-map, map-nothing}
@@ -134,8 +134,8 @@ column_at-spread (c ∷ cs) (suc i) h = column_at-spread cs i (omega (arith, h))
 value-spread : (ranks : List ℕ) (i : ℕ) → i < length ranks → get_or (map itself (map spread ranks)) i 0 ≡ spread (get_or ranks i 0)
 value-spread ranks i h = ap (λ (xs : List ℕ). get_or xs i 0) (map-nothing itself (map spread ranks) (λ x. refl)) ∙ get_or-map spread ranks i 0 0 h
 
-values-spread : {B : Type 0} (width i : ℕ) (kept : List (Kept B)) → i < width → AllFull width kept → values_at itself i (map spread_row kept) ≡ map spread (ranks_at i kept)
-unfolding values_at value_at ranks_at spread_row AllFull
+values-spread : {B : Type 0} (width i : ℕ) (kept : List (Kept B)) → i < width → AllFull width kept → column_values itself i (map spread_row kept) ≡ map spread (ranks_at i kept)
+unfolding column_values cell_value ranks_at spread_row AllFull
 values-spread width i [] h full = refl
 values-spread width i (row ∷ kept) h full = ap₂ (λ (x : ℕ) (rest : List ℕ). x ∷ rest) (value-spread row.ranks i (omega (arith, h, full.1))) (values-spread width i kept h full.2)
 
@@ -158,7 +158,7 @@ spread-sound {B} same_time limit s w =
       wide = subst (λ (n : ℕ). AllWide n (map spread_row s.kept)) (sym many) (wide-spread (length s.columns) s.kept w.full);
       columns = λ i h.
           let k : i < length s.columns = omega (arith, h, many) in
-          subst (λ (c : Column ℕ). SoundColumn ℕ itself same_time c (values_at itself i (map spread_row s.kept))) (sym (column_at-spread s.columns i k))
+          subst (λ (c : Column ℕ). SoundColumn ℕ itself same_time c (column_values itself i (map spread_row s.kept))) (sym (column_at-spread s.columns i k))
           (subst (SoundColumn ℕ itself same_time (spread_column (column_at s.columns i))) (sym (values-spread (length s.columns) i s.kept k w.full))
           (sound-spread same_time (column_at s.columns i) (ranks_at i s.kept) (w.columns i k)));
     }

@@ -12,7 +12,7 @@ use Rattle.table_model.specs.Stores.{Row, Store, Kept, Shelf, map_row, map_store
 use Rattle.table_model.specs.Steps.{operate, adds, drops, only, places_by}
 use Rattle.table_model.specs.Changes.{cells_of, rows_without, insert_cells, delete_number, delete_numbers, lay_store}
 use Rattle.table_model.specs.ShelfLaws.{MapsStore, MapsCompose, MapsNothing}
-use Rattle.table_model.proofs.Lists.{map-map, map-same, map-nothing, without-map, beside-map}
+use Rattle.table_model.proofs.Lists.{map-map, map-same, map-nothing, without-map, of_row-map}
 use Rattle.table_model.proofs.Maps.{operate-map, adds-map, drops-map, only-map}
 
 abbrev through : {B C : Type 0} → (B → C) → (C → ℕ) → B → ℕ
@@ -77,7 +77,7 @@ insert_cells-map {B} {C} f v same_time cells t =
 
 cells_of-map : {B C : Type 0} (f : B → C) (number : ℕ) (rows : List (Row B)) → cells_of number (map (map_row f) rows) ≡ map f (cells_of number rows)
 unfolding cells_of map_row
-cells_of-map {B} {C} f number rows = beside-map (map_row f) (map f) (λ (row : Row B). row.number) (λ (row : Row C). row.number) (λ (row : Row B). row.cells) (λ (row : Row C). row.cells) number rows (λ row. refl) (λ row. refl) refl
+cells_of-map {B} {C} f number rows = of_row-map (map_row f) (map f) (λ (row : Row B). row.number) (λ (row : Row C). row.number) (λ (row : Row B). row.cells) (λ (row : Row C). row.cells) number rows (λ row. refl) (λ row. refl) refl
 
 rows_without-map : {B C : Type 0} (f : B → C) (number : ℕ) (rows : List (Row B)) → rows_without number (map (map_row f) rows) ≡ map (map_row f) (rows_without number rows)
 unfolding rows_without map_row

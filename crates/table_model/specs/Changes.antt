@@ -17,15 +17,15 @@ without number_of number [] = []
 without number_of number (row ∷ rows) = here_or (number_of row == number) rows (row ∷ without number_of number rows)
 
 -- what the first row with this number has, and nothing where there is none
-unfoldable pub beside : {A C : Type 0} → (A → ℕ) → (A → List C) → ℕ → List A → List C
-beside number_of what number [] = []
-beside number_of what number (row ∷ rows) = here_or (number_of row == number) (what row) (beside number_of what number rows)
+unfoldable pub of_row : {A C : Type 0} → (A → ℕ) → (A → List C) → ℕ → List A → List C
+of_row number_of what number [] = []
+of_row number_of what number (row ∷ rows) = here_or (number_of row == number) (what row) (of_row number_of what number rows)
 
 unfoldable pub ranks_of : {B : Type 0} → ℕ → List (Kept B) → List ℕ
-ranks_of {B} number kept = beside (λ (row : Kept B). row.number) (λ (row : Kept B). row.ranks) number kept
+ranks_of {B} number kept = of_row (λ (row : Kept B). row.number) (λ (row : Kept B). row.ranks) number kept
 
 unfoldable pub cells_of : {B : Type 0} → ℕ → List (Row B) → List B
-cells_of {B} number rows = beside (λ (row : Row B). row.number) (λ (row : Row B). row.cells) number rows
+cells_of {B} number rows = of_row (λ (row : Row B). row.number) (λ (row : Row B). row.cells) number rows
 
 unfoldable pub kept_without : {B : Type 0} → ℕ → List (Kept B) → List (Kept B)
 kept_without {B} number kept = without (λ (row : Kept B). row.number) number kept
@@ -36,23 +36,23 @@ rows_without {B} number rows = without (λ (row : Row B). row.number) number row
 -- ---- by rank
 
 -- the other rows follow their items; the new row has the number `next` and stands last, at the ranks of its places
-unfoldable pub with_row : {B : Type 0} → List ℕ → List B → Shelf B → Shelf B
-with_row ranks bodies s = record {
+unfoldable pub with_kept : {B : Type 0} → List ℕ → List B → Shelf B → Shelf B
+with_kept ranks bodies s = record {
   kept = s.kept ++ (record { number = s.next; bodies = bodies; ranks = ranks }) ∷ [];
   next = suc s.next;
   columns = s.columns;
 }
 
 unfoldable pub insert_row : {B : Type 0} → Bool → List Place → List B → Shelf B → Shelf B
-insert_row same_time places bodies s = with_row (map rank_in places) bodies (operated same_time (adds places bodies) s)
+insert_row same_time places bodies s = with_kept (map rank_in places) bodies (operated same_time (adds places bodies) s)
 
 -- the row taken out, its columns as they are
-unfoldable pub without_row : {B : Type 0} → ℕ → Shelf B → Shelf B
-without_row number s = record { kept = kept_without number s.kept; next = s.next; columns = s.columns }
+unfoldable pub shelf_without : {B : Type 0} → ℕ → Shelf B → Shelf B
+shelf_without number s = record { kept = kept_without number s.kept; next = s.next; columns = s.columns }
 
 -- the row taken out, then in each column one row fewer at its rank
 unfoldable pub delete_row : {B : Type 0} → Bool → ℕ → Shelf B → Shelf B
-delete_row same_time number s = operated same_time (drops (ranks_of number s.kept)) (without_row number s)
+delete_row same_time number s = operated same_time (drops (ranks_of number s.kept)) (shelf_without number s)
 
 -- one row after the other
 unfoldable pub delete_rows : {B : Type 0} → Bool → List ℕ → Shelf B → Shelf B

@@ -12,13 +12,13 @@ abbrev pub itself : ℕ → ℕ
 itself value = value
 
 -- rows of one cell, one after the other
-unfoldable pub inserted : Bool → List ℕ → Store ℕ → Store ℕ
-inserted same_time [] t = t
-inserted same_time (x ∷ xs) t = inserted same_time xs (insert_cells same_time itself (x ∷ []) t)
+unfoldable pub filled : Bool → List ℕ → Store ℕ → Store ℕ
+filled same_time [] t = t
+filled same_time (x ∷ xs) t = filled same_time xs (insert_cells same_time itself (x ∷ []) t)
 
 -- a table of one column, with these values inserted
 abbrev pub table_with : Bool → List ℕ → Store ℕ
-table_with same_time xs = inserted same_time xs (empty_store ℕ 1)
+table_with same_time xs = filled same_time xs (empty_store ℕ 1)
 
 abbrev pub with_count : ℕ → ℕ → Item ℕ
 with_count value count = record { body = value; count = count }
@@ -43,17 +43,17 @@ DropLastDuplicate = DropsLast false × DropsLast true
 
 -- ---- rebuild-on-depth: 1, 2, 3, 4 and 5 inserted one after the other; the fifth would be at depth 4, and the root is balanced
 
-abbrev pub row_at : ℕ → ℕ → ℕ → Kept ℕ
-row_at number value rank = record { number = number; bodies = value ∷ []; ranks = rank ∷ [] }
+abbrev pub kept_at : ℕ → ℕ → ℕ → Kept ℕ
+kept_at number value rank = record { number = number; bodies = value ∷ []; ranks = rank ∷ [] }
 
 abbrev pub four_rows : List (Kept ℕ)
-four_rows = row_at 1 1 0 ∷ row_at 2 2 1 ∷ row_at 3 3 2 ∷ row_at 4 4 3 ∷ []
+four_rows = kept_at 1 1 0 ∷ kept_at 2 2 1 ∷ kept_at 3 3 2 ∷ kept_at 4 4 3 ∷ []
 
 abbrev pub four_items : Column ℕ
 four_items = record { tree = node leaf (with_count 1 1) (node leaf (with_count 2 1) (node leaf (with_count 3 1) (node leaf (with_count 4 1) leaf))); most = 4 }
 
 abbrev pub five_rows : List (Kept ℕ)
-five_rows = row_at 1 1 0 ∷ row_at 2 2 1 ∷ row_at 3 3 2 ∷ row_at 4 4 3 ∷ row_at 5 5 4 ∷ []
+five_rows = kept_at 1 1 0 ∷ kept_at 2 2 1 ∷ kept_at 3 3 2 ∷ kept_at 4 4 3 ∷ kept_at 5 5 4 ∷ []
 
 abbrev pub five_items : Column ℕ
 five_items = record { tree = balanced (with_count 1 1 ∷ with_count 2 1 ∷ with_count 3 1 ∷ with_count 4 1 ∷ with_count 5 1 ∷ []); most = 5 }
@@ -69,7 +69,7 @@ RebuildOnDepth = RebuildsFifth false × RebuildsFifth true
 -- ---- one value three times, and the second row deleted: the other rows keep the item, which has two rows
 
 abbrev pub two_of_one : Shelf ℕ
-two_of_one = record { kept = row_at 1 7 0 ∷ row_at 3 7 0 ∷ []; next = 4; columns = one_item 7 2 ∷ [] }
+two_of_one = record { kept = kept_at 1 7 0 ∷ kept_at 3 7 0 ∷ []; next = 4; columns = one_item 7 2 ∷ [] }
 
 pub record DeletesSecond (same_time : Bool) : Type 0 where
   pub by_value : shelf_of itself (delete_number same_time itself 2 (table_with same_time (7 ∷ 7 ∷ 7 ∷ []))) ≡ two_of_one
@@ -83,10 +83,10 @@ DeleteSecond = DeletesSecond false × DeletesSecond true
 -- ordinary mode with the next row, when one of three items is live
 
 pub record FollowsItems : Type 0 where
-  pub before : (shelf_of itself (table_with false (5 ∷ 3 ∷ 4 ∷ []))).kept ≡ row_at 1 5 2 ∷ row_at 2 3 0 ∷ row_at 3 4 1 ∷ []
-  pub item_stays : (delete_row false 2 (shelf_of itself (table_with false (5 ∷ 3 ∷ 4 ∷ [])))).kept ≡ row_at 1 5 2 ∷ row_at 3 4 1 ∷ []
-  pub items_go : (delete_rows false (2 ∷ 3 ∷ []) (shelf_of itself (table_with false (5 ∷ 3 ∷ 4 ∷ [])))).kept ≡ row_at 1 5 0 ∷ []
-  pub item_goes : (delete_row true 2 (shelf_of itself (table_with true (5 ∷ 3 ∷ 4 ∷ [])))).kept ≡ row_at 1 5 1 ∷ row_at 3 4 0 ∷ []
+  pub before : (shelf_of itself (table_with false (5 ∷ 3 ∷ 4 ∷ []))).kept ≡ kept_at 1 5 2 ∷ kept_at 2 3 0 ∷ kept_at 3 4 1 ∷ []
+  pub item_stays : (delete_row false 2 (shelf_of itself (table_with false (5 ∷ 3 ∷ 4 ∷ [])))).kept ≡ kept_at 1 5 2 ∷ kept_at 3 4 1 ∷ []
+  pub items_go : (delete_rows false (2 ∷ 3 ∷ []) (shelf_of itself (table_with false (5 ∷ 3 ∷ 4 ∷ [])))).kept ≡ kept_at 1 5 0 ∷ []
+  pub item_goes : (delete_row true 2 (shelf_of itself (table_with true (5 ∷ 3 ∷ 4 ∷ [])))).kept ≡ kept_at 1 5 1 ∷ kept_at 3 4 0 ∷ []
 
 -- an install balances the tree of its column alone
 pub record BalancesOne (same_time : Bool) : Type 0 where

@@ -6,7 +6,7 @@ use Rattle.tree_model.specs.Places.{holds, IsIncreasing}
 use Rattle.tree_model.specs.Columns.{Column}
 use Rattle.table_model.specs.Stores.{Store, Shelf}
 use Rattle.table_model.specs.Soundness.{numbers_of, kept_numbers}
-use Rattle.table_model.specs.Operations.{Op, Insert, Delete, RankOp, InsertAt, DeleteAt, op_on, rank_op_on, columns_in, rows_in, shelf_at}
+use Rattle.table_model.specs.Operations.{ValueOp, InsertCells, DeleteRows, RankOp, InsertAt, DeleteAt, op_on, rank_op_on, columns_in, rows_in, shelf_at}
 
 -- each of them is one of these
 unfoldable pub AllAmong : List ℕ → List ℕ → Type 0
@@ -28,14 +28,14 @@ pub record FitsDelete (B : Type 0) (table : ℕ) (numbers : List ℕ) (stores : 
   pub rise : IsIncreasing numbers
   pub live : AllAmong (numbers_of (rows_in stores table)) numbers
 
-unfoldable pub Fits : {B : Type 0} → ℕ → Op B → List (Store B) → Type 0
-Fits {B} limit (Insert table cells) stores = FitsInsert B limit table cells stores
-Fits {B} limit (Delete table numbers) stores = FitsDelete B table numbers stores
+unfoldable pub OpFits : {B : Type 0} → ℕ → ValueOp B → List (Store B) → Type 0
+OpFits {B} limit (InsertCells table cells) stores = FitsInsert B limit table cells stores
+OpFits {B} limit (DeleteRows table numbers) stores = FitsDelete B table numbers stores
 
 -- each fits the tables as those before it leave them
-unfoldable pub AllFit : {B : Type 0} → Bool → (B → ℕ) → ℕ → List (Op B) → List (Store B) → Type 0
+unfoldable pub AllFit : {B : Type 0} → Bool → (B → ℕ) → ℕ → List (ValueOp B) → List (Store B) → Type 0
 AllFit same_time v limit [] stores = Unit {0}
-AllFit same_time v limit (op ∷ ops) stores = Fits limit op stores × AllFit same_time v limit ops (op_on same_time v op stores)
+AllFit same_time v limit (op ∷ ops) stores = OpFits limit op stores × AllFit same_time v limit ops (op_on same_time v op stores)
 
 -- ---- by rank
 
@@ -58,10 +58,10 @@ pub record FitsDeleteAt (B : Type 0) (table : ℕ) (numbers : List ℕ) (shelves
   pub rise : IsIncreasing numbers
   pub live : AllAmong (kept_numbers (shelf_at shelves table).kept) numbers
 
-unfoldable pub FitsAt : {B : Type 0} → ℕ → RankOp B → List (Shelf B) → Type 0
-FitsAt {B} limit (InsertAt table places bodies) shelves = FitsInsertAt B limit table places bodies shelves
-FitsAt {B} limit (DeleteAt table numbers) shelves = FitsDeleteAt B table numbers shelves
+unfoldable pub OpFitsAt : {B : Type 0} → ℕ → RankOp B → List (Shelf B) → Type 0
+OpFitsAt {B} limit (InsertAt table places bodies) shelves = FitsInsertAt B limit table places bodies shelves
+OpFitsAt {B} limit (DeleteAt table numbers) shelves = FitsDeleteAt B table numbers shelves
 
 unfoldable pub AllFitAt : {B : Type 0} → Bool → ℕ → List (RankOp B) → List (Shelf B) → Type 0
 AllFitAt same_time limit [] shelves = Unit {0}
-AllFitAt same_time limit (op ∷ ops) shelves = FitsAt limit op shelves × AllFitAt same_time limit ops (rank_op_on same_time op shelves)
+AllFitAt same_time limit (op ∷ ops) shelves = OpFitsAt limit op shelves × AllFitAt same_time limit ops (rank_op_on same_time op shelves)

@@ -9,21 +9,21 @@ use Rattle.table_model.specs.Changes.{insert_row, delete_rows, delete_steps, lay
 use Rattle.table_model.specs.Soundness.{Sound, Same}
 
 -- by value: a row of cells into a table, or the rows of these numbers out of it
-pub data Op (B : Type 0) : Type 0 where
-  Insert : ℕ → List B → Op B
-  Delete : ℕ → List ℕ → Op B
+pub data ValueOp (B : Type 0) : Type 0 where
+  InsertCells : ℕ → List B → ValueOp B
+  DeleteRows : ℕ → List ℕ → ValueOp B
 
 -- by rank: a row's bodies at these places of a table, or the rows of these numbers out of it
 pub data RankOp (B : Type 0) : Type 0 where
   InsertAt : ℕ → List Place → List B → RankOp B
   DeleteAt : ℕ → List ℕ → RankOp B
 
-unfoldable pub op_on : {B : Type 0} → Bool → (B → ℕ) → Op B → List (Store B) → List (Store B)
-op_on same_time v (Insert table cells) stores = change_at (insert_cells same_time v cells) stores table
-op_on same_time v (Delete table numbers) stores = change_at (delete_numbers same_time v numbers) stores table
+unfoldable pub op_on : {B : Type 0} → Bool → (B → ℕ) → ValueOp B → List (Store B) → List (Store B)
+op_on same_time v (InsertCells table cells) stores = change_at (insert_cells same_time v cells) stores table
+op_on same_time v (DeleteRows table numbers) stores = change_at (delete_numbers same_time v numbers) stores table
 
 -- one after the other
-unfoldable pub ops_on : {B : Type 0} → Bool → (B → ℕ) → List (Op B) → List (Store B) → List (Store B)
+unfoldable pub ops_on : {B : Type 0} → Bool → (B → ℕ) → List (ValueOp B) → List (Store B) → List (Store B)
 ops_on same_time v [] stores = stores
 ops_on same_time v (op ∷ ops) stores = ops_on same_time v ops (op_on same_time v op stores)
 
@@ -74,20 +74,20 @@ unfoldable pub rows_in : {B : Type 0} → List (Store B) → ℕ → List (Row B
 rows_in stores table = get_or (map (λ t. t.rows) stores) table []
 
 -- the operation by rank: each cell at the place of its value
-unfoldable pub placed_op : {B : Type 0} → (B → ℕ) → Op B → List (Store B) → RankOp B
-placed_op v (Insert table cells) stores = InsertAt table (places_by v (columns_in stores table) cells) cells
-placed_op v (Delete table numbers) stores = DeleteAt table numbers
+unfoldable pub placed_op : {B : Type 0} → (B → ℕ) → ValueOp B → List (Store B) → RankOp B
+placed_op v (InsertCells table cells) stores = InsertAt table (places_by v (columns_in stores table) cells) cells
+placed_op v (DeleteRows table numbers) stores = DeleteAt table numbers
 
 -- each by the tables as those before it leave them
-unfoldable pub placed_ops : {B : Type 0} → Bool → (B → ℕ) → List (Op B) → List (Store B) → List (RankOp B)
+unfoldable pub placed_ops : {B : Type 0} → Bool → (B → ℕ) → List (ValueOp B) → List (Store B) → List (RankOp B)
 placed_ops same_time v [] stores = []
 placed_ops same_time v (op ∷ ops) stores = placed_op v op stores ∷ placed_ops same_time v ops (op_on same_time v op stores)
 
 -- ---- the same over other bodies
 
-unfoldable pub map_op : {B C : Type 0} → (B → C) → Op B → Op C
-map_op f (Insert table cells) = Insert table (map f cells)
-map_op f (Delete table numbers) = Delete table numbers
+unfoldable pub map_op : {B C : Type 0} → (B → C) → ValueOp B → ValueOp C
+map_op f (InsertCells table cells) = InsertCells table (map f cells)
+map_op f (DeleteRows table numbers) = DeleteRows table numbers
 
 unfoldable pub map_rank_op : {B C : Type 0} → (B → C) → RankOp B → RankOp C
 map_rank_op f (InsertAt table places bodies) = InsertAt table places (map f bodies)

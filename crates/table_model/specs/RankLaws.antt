@@ -8,7 +8,7 @@ use Rattle.tree_model.specs.Sums.{origins}
 use Rattle.tree_model.specs.Carried.{carried}
 use Rattle.table_model.specs.Stores.{Store, Shelf, empty_shelf, map_shelf, shelf_of}
 use Rattle.table_model.specs.Steps.{operated, adds, drops, only}
-use Rattle.table_model.specs.Changes.{insert_row, delete_row, delete_rows, lay_column, ranks_of, kept_without, without_row}
+use Rattle.table_model.specs.Changes.{insert_row, delete_row, delete_rows, lay_column, ranks_of, kept_without, shelf_without}
 use Rattle.table_model.specs.Soundness.{ranks_at, column_at, Sound, FitsRows}
 use Rattle.table_model.specs.Operations.{RankOp, rank_ops_on, rank_install_on}
 use Rattle.table_model.specs.Fitting.{AllPlaced, AllFitAt}
@@ -45,10 +45,10 @@ pub record ColumnFollows (B : Type 0) (same_time : Bool) (steps : List (List (Op
 abbrev pub ColumnsFollow : Type 0 → Type 0
 ColumnsFollow B = (same_time : Bool) (steps : List (List (Operation B))) (s : Shelf B) (column : ℕ) → IsRanked B s → column < length s.columns → ColumnFollows B same_time steps s column
 
--- a sound shelf has a rank of an item for each row and column, and keeps this where a row is taken out before its items lose it
+-- in a sound shelf each row has the rank of an item in each column, and so have the others where a row is taken out
 pub record HasRanks (B : Type 0) (s : Shelf B) : Type 0 where
   pub ranked : IsRanked B s
-  pub without : (number : ℕ) → IsRanked B (without_row number s)
+  pub without : (number : ℕ) → IsRanked B (shelf_without number s)
 
 abbrev pub SoundHasRanks : Type 0 → Type 0
 SoundHasRanks B = (same_time : Bool) (limit : ℕ) (s : Shelf B) → SoundShelf B same_time limit s → HasRanks B s

@@ -16,12 +16,12 @@ unfoldable pub kept_numbers : {B : Type 0} → List (Kept B) → List ℕ
 kept_numbers kept = map (λ row. row.number) kept
 
 -- the value of a row in a column, and 0 where the row has no such cell
-unfoldable pub value_at : {B : Type 0} → (B → ℕ) → ℕ → Row B → ℕ
-value_at v column row = get_or (map v row.cells) column 0
+unfoldable pub cell_value : {B : Type 0} → (B → ℕ) → ℕ → Row B → ℕ
+cell_value v column row = get_or (map v row.cells) column 0
 
 -- the values of the rows in a column
-unfoldable pub values_at : {B : Type 0} → (B → ℕ) → ℕ → List (Row B) → List ℕ
-values_at v column rows = map (value_at v column) rows
+unfoldable pub column_values : {B : Type 0} → (B → ℕ) → ℕ → List (Row B) → List ℕ
+column_values v column rows = map (cell_value v column) rows
 
 -- of a table by rank: the ranks of the rows in a column, and what their bodies read as
 unfoldable pub ranks_at : {B : Type 0} → ℕ → List (Kept B) → List ℕ
@@ -51,7 +51,7 @@ pub record Sound (B : Type 0) (v : B → ℕ) (same_time : Bool) (limit : ℕ) (
   pub few : length t.rows ≤ limit
   pub numbered : IsIncreasing (numbers_of t.rows ++ t.next ∷ [])
   pub wide : AllWide (length t.columns) t.rows
-  pub columns : (column : ℕ) → column < length t.columns → SoundColumn B v same_time (column_at t.columns column) (values_at v column t.rows)
+  pub columns : (column : ℕ) → column < length t.columns → SoundColumn B v same_time (column_at t.columns column) (column_values v column t.rows)
 
 -- a column never had more items than this, and each way in its tree has at most so many steps
 pub record IsLow (B : Type 0) (c : Column B) (items steps : ℕ) : Type 0 where

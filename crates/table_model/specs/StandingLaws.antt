@@ -6,7 +6,7 @@ use Rattle.table_model.specs.Stores.{Store, Shelf, empty_store, empty_shelf}
 use Rattle.table_model.specs.Steps.{places_by}
 use Rattle.table_model.specs.Changes.{insert_row, delete_row, delete_rows, lay_column, insert_cells, delete_number, delete_numbers, lay_store}
 use Rattle.table_model.specs.Soundness.{column_at, readings_at, ranks_at}
-use Rattle.table_model.specs.Operations.{Op, RankOp, ops_on, rank_ops_on, install_on, rank_install_on, placed_ops, map_rank_op, AllSound, AllSame}
+use Rattle.table_model.specs.Operations.{ValueOp, RankOp, ops_on, rank_ops_on, install_on, rank_install_on, placed_ops, map_rank_op, AllSound, AllSame}
 use Rattle.table_model.specs.Fitting.{AllFit, AllFitAt}
 use Rattle.table_model.specs.Standing.{Stands, AllStand}
 
@@ -36,12 +36,12 @@ EmptiesStand B C = (seal : C → B) (v : C → ℕ) (same_time : Bool) (limit : 
 
 -- operations, placed by tables of which the present ones differ by balancing alone and sealed, fit the shelves, which stand afterwards for
 -- the stores after the operations by value
-pub record OpsStand (B C : Type 0) (seal : C → B) (v : C → ℕ) (same_time : Bool) (limit : ℕ) (ops : List (Op C)) (placed : List (RankOp B)) (shelves : List (Shelf B)) (stores : List (Store C)) : Type 0 where
+pub record OpsStand (B C : Type 0) (seal : C → B) (v : C → ℕ) (same_time : Bool) (limit : ℕ) (ops : List (ValueOp C)) (placed : List (RankOp B)) (shelves : List (Shelf B)) (stores : List (Store C)) : Type 0 where
   pub fit : AllFitAt same_time limit placed shelves
   pub stand : AllStand B C seal v same_time limit (rank_ops_on same_time placed shelves) (ops_on same_time v ops stores)
 
 abbrev pub OperationsStand : Type 0 → Type 0 → Type 0
-OperationsStand B C = (seal : C → B) (v : C → ℕ) (same_time : Bool) (limit : ℕ) (ops : List (Op C)) (base stores : List (Store C)) (shelves : List (Shelf B)) → AllStand B C seal v same_time limit shelves stores → AllSound v same_time limit base → AllSame base stores → AllFit same_time v limit ops base
+OperationsStand B C = (seal : C → B) (v : C → ℕ) (same_time : Bool) (limit : ℕ) (ops : List (ValueOp C)) (base stores : List (Store C)) (shelves : List (Shelf B)) → AllStand B C seal v same_time limit shelves stores → AllSound v same_time limit base → AllSame base stores → AllFit same_time v limit ops base
     → OpsStand B C seal v same_time limit ops (map (map_rank_op seal) (placed_ops same_time v ops base)) shelves stores
 
 abbrev pub InstallStands : Type 0 → Type 0 → Type 0

@@ -4,7 +4,7 @@ use Rattle.tree_model.specs.Places.{holds}
 use Rattle.table_model.specs.Stores.{Store, empty_store, ranks_by}
 use Rattle.table_model.specs.Steps.{places_by}
 use Rattle.table_model.specs.Changes.{insert_cells, delete_number, delete_numbers, lay_store}
-use Rattle.table_model.specs.Soundness.{values_at, column_at, Sound, FitsRows, OwnItem, Same}
+use Rattle.table_model.specs.Soundness.{column_values, column_at, Sound, FitsRows, OwnItem, Same}
 
 -- ---- sound tables
 
@@ -37,7 +37,7 @@ SoundFitsRows B = (v : B → ℕ) (same_time : Bool) (limit : ℕ) (t : Store B)
 
 -- each row has an item of its own in each column
 abbrev pub RowsOwnItems : Type 0 → Type 0
-RowsOwnItems B = (v : B → ℕ) (same_time : Bool) (limit : ℕ) (t : Store B) (column row d : ℕ) → Sound B v same_time limit t → column < length t.columns → row < length t.rows → OwnItem B v (column_at t.columns column) (get_or (values_at v column t.rows) row 0) d
+RowsOwnItems B = (v : B → ℕ) (same_time : Bool) (limit : ℕ) (t : Store B) (column row d : ℕ) → Sound B v same_time limit t → column < length t.columns → row < length t.rows → OwnItem B v (column_at t.columns column) (get_or (column_values v column t.rows) row 0) d
 
 -- ---- tables that differ by balancing alone
 

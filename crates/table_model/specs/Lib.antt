@@ -1,0 +1,15 @@
+pub mod Stores
+pub mod Steps
+pub mod Changes
+pub mod Soundness
+pub mod Operations
+pub mod Fitting
+pub mod Standing
+pub mod Examples
+pub mod ShelfLaws
+pub mod StoreLaws
+pub mod OperationLaws
+pub mod StandingLaws
+pub mod StepLaws
+pub mod ShelfSoundness
+pub mod RankLaws

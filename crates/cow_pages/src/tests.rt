@@ -151,3 +151,12 @@ fn take_first(list: &mut Paged<u64>) -> Result<u64, OutOfMemory> {
     }
     list.remove(0)
 }
+
+fn crosses_threads<T: Send + Sync>(_value: &T) {}
+
+/// A list may go to other threads, and be shared with them.
+#[test]
+fn sent_and_shared(rt: HostRuntime) {
+    let list: Paged<u64> = Paged::new(rt.alloc());
+    crosses_threads(&list);
+}

@@ -1,0 +1,19 @@
+-- The entries whose codes are between two ends.
+use Rattle.std.specs.Prelude.{◌≡◌, ℕ, ◌+◌, ◌<◌, ◌≤◌, max, List, length}
+use Rattle.std.specs.List.{AllWithin}
+use Rattle.tree_model.specs.Places.{below}
+use Rattle.column_index.specs.declared.entry.Entry.{Entry}
+use Rattle.column_index.specs.Entries.{codes_in}
+
+-- where the codes from `low` to `high` begin among increasing ones, and where they end: nowhere else than where they begin if there are none
+unfoldable pub range_of : ℕ → ℕ → List ℕ → ℕ × ℕ
+range_of low high codes = (below low codes, max (below low codes) (below (high + 1) codes))
+
+-- the entries before the first place are below the range, those from there to the end are in it, and those after it are above
+pub record IsRange (low high : ℕ) (entries : List Entry) (first end : ℕ) : Type 0 where
+  pub order : first ≤ end
+  pub within : end ≤ length entries
+  pub before : AllWithin (λ e. e.enc < low) entries 0 first
+  pub from : AllWithin (λ e. low ≤ e.enc) entries first end
+  pub to : AllWithin (λ e. e.enc ≤ high) entries first end
+  pub after : AllWithin (λ e. high < e.enc) entries end (length entries)

@@ -25,7 +25,12 @@ fn start_of(entries: &Paged<Entry>, place: usize, code: u64) -> usize
 }
 
 /// Gives the entries of one code its new one, and answers where they end. They are told by the entries before all changes.
-fn move_code(before: &Paged<Entry>, entries: &mut Paged<Entry>, start: usize, pair: Recode) -> Result<usize, OutOfMemory>
+fn move_code(
+    before: &Paged<Entry>,
+    entries: &mut Paged<Entry>,
+    start: usize,
+    pair: Recode,
+) -> Result<usize, OutOfMemory>
     requires ordered { IsOrdered before.now }
     requires start { start ≡ below pair.old (codes_in before.now) }
     requires many { length entries.old ≡ length before.now }

@@ -1,0 +1,6 @@
+mod Codes
+mod Fronting
+mod Orders
+mod Points
+mod Recodings
+mod Sorting

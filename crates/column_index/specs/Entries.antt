@@ -1,5 +1,5 @@
 -- The entries of an index, in increasing order by code and row.
-use Rattle.std.specs.Prelude.{◌≡◌, ℕ, Bool, true, false, ◌||◌, ◌&&◌, ◌==◌, nat_lt, List, [], ◌∷◌, map}
+use Rattle.std.specs.Prelude.{◌≡◌, ℕ, Bool, true, false, ◌||◌, ◌&&◌, ◌==◌, nat_lt, List, [], ◌∷◌, map, Option, Some, None}
 use Rattle.std.specs.Bool.{if◌then◌else◌}
 use Rattle.column_index.specs.declared.entry.Entry.{Entry}
 
@@ -9,6 +9,11 @@ precedes e x = nat_lt e.enc x.enc || ((e.enc == x.enc) && nat_lt e.row x.row)
 
 unfoldable pub is_same : Entry → Entry → Bool
 is_same e x = (e.enc == x.enc) && (e.row == x.row)
+
+-- whether what stands at a place is this entry
+unfoldable pub is_entry : Entry → Option Entry → Bool
+is_entry e None = false
+is_entry e (Some x) = is_same e x
 
 -- whether the entry is one of these
 unfoldable pub holds_entry : Entry → List Entry → Bool

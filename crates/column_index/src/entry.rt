@@ -1,5 +1,5 @@
 //! Entries of an index.
-ghost use Rattle.column_index.specs.Entries.{precedes};
+ghost use Rattle.column_index.specs.Entries.{is_same, precedes};
 ghost use Rattle.std.specs.Prelude.{◌≡◌};
 
 /// A row of a column: the code of its value, and its number.
@@ -15,5 +15,12 @@ impl Entry {
         ensures { result ≡ precedes self.now other.now }
     {
         self.enc < other.enc || (self.enc == other.enc && self.row < other.row)
+    }
+
+    /// Whether it is the other one.
+    pub fn is_same(&self, other: &Entry) -> bool
+        ensures { result ≡ is_same self.now other.now }
+    {
+        self.enc == other.enc && self.row == other.row
     }
 }

@@ -9,7 +9,7 @@ ghost use Rattle.tree_model.specs.Places.{IsIncreasing};
 
 use crate::entry::Entry;
 use crate::moving::move_codes;
-use crate::placing::{end_of, first_of, put_entry, take_entry};
+use crate::placing::{end_of, entry_at, first_of, put_entry, take_entry};
 use cow_pages::Paged;
 use mope_base::OutOfMemory;
 use path_code::Recode;
@@ -75,7 +75,7 @@ impl Index {
     pub fn at(&self, place: usize) -> Option<Entry>
         ensures { result ≡ slice_get self.now.entries place }
     {
-        self.entries.get(place).copied()
+        entry_at(&self.entries, place)
     }
 
     /// Adds an entry that isn't there.

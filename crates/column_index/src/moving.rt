@@ -7,7 +7,7 @@ ghost use Rattle.std.specs.Prelude.{◌≡◌, ℕ, ◌+◌, ◌<◌, ◌≤◌,
 ghost use Rattle.tree_model.specs.Places.{IsIncreasing, below};
 
 use crate::entry::Entry;
-use crate::placing::first_of;
+use crate::placing::{entry_at, first_of};
 use cow_pages::Paged;
 use mope_base::OutOfMemory;
 use path_code::Recode;
@@ -18,7 +18,7 @@ fn start_of(entries: &Paged<Entry>, place: usize, code: u64) -> usize
     requires from { place ≤ below code (codes_in entries.now) }
     ensures { result ≡ below code (codes_in entries.now) }
 {
-    match entries.get(place) {
+    match entry_at(entries, place) {
         Some(entry) if entry.enc < code => first_of(entries, code),
         _ => place,
     }
@@ -26,21 +26,21 @@ fn start_of(entries: &Paged<Entry>, place: usize, code: u64) -> usize
 
 /// Gives the entries of one code its new one, and answers where they end. They are told by the entries before all changes.
 fn move_code(
-    before: &Paged<Entry>,
+    earlier: &Paged<Entry>,
     entries: &mut Paged<Entry>,
     start: usize,
     pair: Recode,
 ) -> Result<usize, OutOfMemory>
-    requires ordered { IsOrdered before.now }
-    requires start { start ≡ below pair.old (codes_in before.now) }
-    requires many { length entries.old ≡ length before.now }
-    ensures end { IfOk result (λ end. end ≡ below (pair.old + 1) (codes_in before.now)) }
-    ensures many { IfOk result (λ _. length entries.new ≡ length before.now) }
-    ensures moved { (to : ℕ → ℕ) → to pair.old ≡ pair.new → IsFrontRecoded to before.now start entries.old → IfOk result (λ end. IsFrontRecoded to before.now end entries.new) }
+    requires ordered { IsOrdered earlier.now }
+    requires start { start ≡ below pair.old (codes_in earlier.now) }
+    requires many { length entries.old ≡ length earlier.now }
+    ensures end { IfOk result (λ end. end ≡ below (pair.old + 1) (codes_in earlier.now)) }
+    ensures many { IfOk result (λ _. length entries.new ≡ length earlier.now) }
+    ensures moved { (to : ℕ → ℕ) → to pair.old ≡ pair.new → IsFrontRecoded to earlier.now start entries.old → IfOk result (λ end. IsFrontRecoded to earlier.now end entries.new) }
 {
-    let count = before.len();
+    let count = earlier.len();
     'entries: for place in start..count {
-        let entry = before.run_at(place)[0];
+        let entry = earlier.run_at(place)[0];
         if entry.enc != pair.old {
             return Ok(place);
         }
@@ -62,13 +62,13 @@ pub fn move_codes(entries: &mut Paged<Entry>, moved: &[Recode]) -> Result<(), Ou
     requires olds { IsIncreasing (map (λ pair. pair.old) moved.now) }
     ensures { IfOk result (λ _. entries.new ≡ map (recoded (new_code moved.now)) entries.old) }
 {
-    let Ok(before) = entries.share() else {
+    let Ok(earlier) = entries.share() else {
         return Err(OutOfMemory);
     };
     let mut end = 0;
     'pairs: for pair in moved {
-        let start = start_of(&before, end, pair.old);
-        end = move_code(&before, entries, start, *pair)?;
+        let start = start_of(&earlier, end, pair.old);
+        end = move_code(&earlier, entries, start, *pair)?;
     }
     Ok(())
 }

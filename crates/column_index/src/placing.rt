@@ -1,13 +1,20 @@
 //! Where entries stand in an index.
-ghost use Rattle.column_index.specs.Entries.{IsOrdered, codes_in, holds_entry, precedes, put, without};
+ghost use Rattle.column_index.specs.Entries.{IsOrdered, codes_in, holds_entry, is_entry, precedes, put, without};
 ghost use Rattle.std.specs.List.Sorted.{IsPartitionPoint};
-ghost use Rattle.std.specs.Prelude.{◌≡◌, ◌+◌, ◌<◌, ◌≤◌, IfOk, false, length, true};
+ghost use Rattle.std.specs.Prelude.{◌≡◌, ◌+◌, ◌<◌, ◌≤◌, IfOk, false, length, slice_get, true};
 ghost use Rattle.tree_model.specs.Places.{below};
 
 use crate::cuts::{AfterCode, BeforeCode, BeforeEntry};
 use crate::entry::Entry;
 use cow_pages::Paged;
 use mope_base::OutOfMemory;
+
+/// The entry at a place: `None` exactly where there is no such place.
+pub fn entry_at(entries: &Paged<Entry>, place: usize) -> Option<Entry>
+    ensures { result ≡ slice_get entries.now place }
+{
+    entries.get(place).copied()
+}
 
 /// How many entries have a smaller code.
 pub fn first_of(entries: &Paged<Entry>, code: u64) -> usize
@@ -34,6 +41,16 @@ fn place_of(entries: &Paged<Entry>, entry: Entry) -> usize
     entries.partition_point(&BeforeEntry(entry))
 }
 
+/// Whether the entry stands at this place.
+fn stands_at(entries: &Paged<Entry>, place: usize, entry: Entry) -> bool
+    ensures { result ≡ is_entry entry (slice_get entries.now place) }
+{
+    match entry_at(entries, place) {
+        None => false,
+        Some(found) => entry.is_same(&found),
+    }
+}
+
 /// Puts an entry in.
 pub fn put_entry(entries: &mut Paged<Entry>, entry: Entry) -> Result<(), OutOfMemory>
     requires ordered { IsOrdered entries.old }
@@ -54,7 +71,7 @@ pub fn take_entry(entries: &mut Paged<Entry>, entry: Entry) -> Result<bool, OutO
     ensures rest { IfOk result (λ _. entries.new ≡ without entry entries.old) }
 {
     let place = place_of(entries, entry);
-    if entries.get(place) != Some(&entry) {
+    if !stands_at(entries, place, entry) {
         return Ok(false);
     }
     match entries.remove(place) {

@@ -5,6 +5,7 @@ use Rattle.path_code.specs.declared.moves.Recode.{Recode}
 use Rattle.tree_model.specs.Places.{below, one_if, IsBelowAll, IsIncreasing}
 use Rattle.tree_model.proofs.Ordered.{below-cons_lt}
 use Rattle.code_changes.specs.Changes.{new_code, new_if}
+use Rattle.column_index.specs.Fronts.{BeginFrom}
 
 -- the old code of a pair
 abbrev pub old_of : Recode → ℕ
@@ -71,11 +72,6 @@ below-more c d (x ∷ xs) le =
         | inr past ↦ rw (le-ltb x d past) more
       ])
     ]
-
--- the entries of each of these pairs begin at this place or later
-unfoldable pub BeginFrom : ℕ → List ℕ → List Recode → Type 0
-BeginFrom place codes [] = Unit {0}
-BeginFrom place codes (pair ∷ moved) = (place ≤ below pair.old codes) × BeginFrom place codes moved
 
 pub BeginFrom-first : (place : ℕ) (codes : List ℕ) (pair : Recode) (moved : List Recode) → BeginFrom place codes (pair ∷ moved) → place ≤ below pair.old codes
 unfolding BeginFrom

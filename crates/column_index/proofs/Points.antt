@@ -1,13 +1,16 @@
 -- Where entries stand in an index, told by a place that parts it.
-use Rattle.std.proofs.Common.{◌≡◌, ◌≢◌, ℕ, ◌+◌, suc, zero, ◌<◌, ◌≤◌, Bool, true, false, ltb, List, [], ◌∷◌, ◌++◌, length, map, take, drop, get_or, refl, ap, ◌∙◌, sym, subst, arith, inl, inr, lt-ltb, le-ltb, length-map}
+use Rattle.std.proofs.Common.{◌≡◌, ◌≢◌, ℕ, ◌+◌, suc, zero, ◌<◌, ◌≤◌, Bool, true, false, ltb, List, [], ◌∷◌, ◌++◌, length, map, take, drop, get_or, refl, ap, ◌∙◌, sym, subst, arith, inl, inr, lt-ltb, le-ltb}
+use Rattle.std.proofs.lemmas.List.{length-map, get_or-take, get_or-drop, get_or_default}
 use borrow.Author.Tests.{ltb-true}
-use Rattle.std.specs.List.{AllWithin, insert, remove}
+use Rattle.std.specs.Prelude.{Some, None}
+use Rattle.std.specs.List.{AllWithin, insert, remove, slice_get}
+use Rattle.std.proofs.lemmas.Option.{slice_get-get_or, slice_get_past, get_or_from_slice_get}
 use Rattle.std.specs.List.Sorted.{IsPartitionPoint, IsPartitionedBy}
 use Rattle.std.proofs.lemmas.Bool.{cases_order, cases_lt, cases_Bool, cases_eq}
 use Rattle.tree_model.specs.Places.{below, one_if}
 use Rattle.tree_model.proofs.Ordered.{below-cons_lt, below-le}
 use Rattle.column_index.specs.declared.entry.Entry.{Entry}
-use Rattle.column_index.specs.Entries.{precedes, is_same, holds_entry, put, without, codes_in, PrecedesAll, IsOrdered}
+use Rattle.column_index.specs.Entries.{precedes, is_same, holds_entry, is_entry, put, without, codes_in, PrecedesAll, IsOrdered}
 use Rattle.column_index.proofs.Orders.{Before-of, Before-not_itself, Before-le, precedes-true, precedes-trans, precedes-asym, precedes-other, is_same-true, is_same-false, other_of_false, cases_same}
 use Rattle.column_index.proofs.Sorting.{put-nothing, put-first, put-later, without-here, without-later, holds-apart, holds-cons, holds-nothing, PrecedesAll-trans}
 
@@ -45,12 +48,6 @@ parted_entries es e ordered = λ i j d le within h.
     ]
 
 -- ---- the place of a code
-
-within_rest : {P : Entry → Type 0} (x : Entry) (xs : List Entry) (i j : ℕ) → AllWithin P (x ∷ xs) (suc i) (suc j) → AllWithin P xs i j
-within_rest x xs i j h = λ k d from to. h (suc k) d (omega arith) (omega arith)
-
-within_from_zero : {P : Entry → Type 0} (x : Entry) (xs : List Entry) (j : ℕ) → AllWithin P (x ∷ xs) zero (suc j) → AllWithin P xs zero j
-within_from_zero x xs j h = λ k d from to. h (suc k) d (omega arith) (omega arith)
 
 pub point_below : (code : ℕ) (es : List Entry) (p : ℕ) → p ≤ length es → IsPartitionPoint (λ x. ltb x.enc code ≡ true) (λ x. ltb x.enc code ≡ false) es p → p ≡ below code (codes_in es)
 unfolding below codes_in one_if
@@ -113,8 +110,8 @@ from_code code (x ∷ xs) (suc k) d ordered le lt =
 
 -- ---- the place of an entry
 
-rest_of_point : {P Q : Entry → Type 0} (x : Entry) (xs : List Entry) (p : ℕ) → IsPartitionPoint P Q (x ∷ xs) (suc p) → IsPartitionPoint P Q xs p
-rest_of_point x xs p h = ((λ k d from to. h.0 (suc k) d (omega arith) (omega arith)), (λ k d from to. h.1 (suc k) d (omega arith) (omega arith)))
+rest_of_point : (e x : Entry) (xs : List Entry) (p : ℕ) → IsPartitionPoint (λ y. precedes y e ≡ true) (λ y. precedes y e ≡ false) (x ∷ xs) (suc p) → IsPartitionPoint (λ y. precedes y e ≡ true) (λ y. precedes y e ≡ false) xs p
+rest_of_point e x xs p h = ((λ k d from to. h.0 (suc k) d (omega arith) (omega arith)), (λ k d from to. h.1 (suc k) d (omega arith) (omega arith)))
 
 pub put-at : (e : Entry) (es : List Entry) (p : ℕ) → p ≤ length es → IsPartitionPoint (λ x. precedes x e ≡ true) (λ x. precedes x e ≡ false) es p → holds_entry e es ≡ false → put e es ≡ insert es p e
 put-at e [] zero le h free = put-nothing e
@@ -123,7 +120,7 @@ put-at e (x ∷ xs) zero le h free =
     put-first e x xs (precedes-other e x (h.1 zero x (omega arith) (omega arith)) (other_of_false e x (holds-apart e x xs free).0))
 put-at e (x ∷ xs) (suc p) le h free =
     put-later e x xs (precedes-asym x e (h.0 zero x (omega arith) (omega arith)))
-    ∙ ap (λ (zs : List Entry). x ∷ zs) (put-at e xs p (omega arith) (rest_of_point x xs p h) (holds-apart e x xs free).1)
+    ∙ ap (λ (zs : List Entry). x ∷ zs) (put-at e xs p (omega arith) (rest_of_point e x xs p h) (holds-apart e x xs free).1)
 
 itself_not : (e x : Entry) → precedes x e ≡ true → is_same e x ≡ false
 itself_not e x h = is_same-false e x (λ same.
@@ -137,7 +134,7 @@ without-at e [] p lt h same = absurd (omega arith)
 without-at e (x ∷ xs) zero lt h same = without-here e x xs same
 without-at e (x ∷ xs) (suc p) lt h same =
     without-later e x xs (itself_not e x (h.0 zero x (omega arith) (omega arith)))
-    ∙ ap (λ (zs : List Entry). x ∷ zs) (without-at e xs p (omega arith) (rest_of_point x xs p h) same)
+    ∙ ap (λ (zs : List Entry). x ∷ zs) (without-at e xs p (omega arith) (rest_of_point e x xs p h) same)
 
 holds_here : (e x : Entry) (xs : List Entry) → is_same e x ≡ true → holds_entry e (x ∷ xs) ≡ true
 unfolding holds_entry
@@ -151,7 +148,7 @@ pub holds-at_point : (e : Entry) (es : List Entry) (p : ℕ) → p < length es �
 holds-at_point e [] p lt h same = absurd (omega arith)
 holds-at_point e (x ∷ xs) zero lt h same = holds_here e x xs same
 holds-at_point e (x ∷ xs) (suc p) lt h same =
-    holds_later e x xs (itself_not e x (h.0 zero x (omega arith) (omega arith))) ∙ holds-at_point e xs p (omega arith) (rest_of_point x xs p h) same
+    holds_later e x xs (itself_not e x (h.0 zero x (omega arith) (omega arith))) ∙ holds-at_point e xs p (omega arith) (rest_of_point e x xs p h) same
 
 holds-before_all : (e : Entry) (es : List Entry) → PrecedesAll e es → holds_entry e es ≡ false
 unfolding PrecedesAll
@@ -168,4 +165,55 @@ holds-not_at e (x ∷ xs) zero le ordered h other =
     holds_later e x xs here ∙ holds-before_all e xs (PrecedesAll-trans e x xs first ordered.0)
 holds-not_at e (x ∷ xs) (suc p) le ordered h other =
     holds_later e x xs (itself_not e x (h.0 zero x (omega arith) (omega arith)))
-    ∙ holds-not_at e xs p (omega arith) ordered.1 (rest_of_point x xs p h) (λ lt. other (omega arith))
+    ∙ holds-not_at e xs p (omega arith) ordered.1 (rest_of_point e x xs p h) (λ lt. other (omega arith))
+
+-- ---- what stands at a place
+
+pub entry_here : (e : Entry) (es : List Entry) (p : ℕ) → is_entry e (slice_get es p) ≡ true → (p < length es) × (is_same e (get_or es p e) ≡ true)
+unfolding is_entry
+entry_here e es p h =
+    elim (cases_lt p (length es)) [
+      | inl lt ↦ (lt, ap (is_entry e) (sym (slice_get-get_or es p e lt)) ∙ h)
+      | inr past ↦ absurd (let f : false ≡ true = ap (is_entry e) (sym (slice_get_past es p past)) ∙ h in cc)
+    ]
+
+pub entry_other : (e : Entry) (es : List Entry) (p : ℕ) → is_entry e (slice_get es p) ≡ false → p < length es → is_same e (get_or es p e) ≡ false
+unfolding is_entry
+entry_other e es p h lt = ap (is_entry e) (sym (slice_get-get_or es p e lt)) ∙ h
+
+-- the first item of the rest of a page is that of its place
+pub first_of_run : {A : Type 0} (items run : List A) (place : ℕ) (d : A) → run ≡ take (length run) (drop place items) → 0 < length run → get_or run 0 d ≡ get_or items place d
+first_of_run items run place d is some =
+    ap (λ (zs : List _). get_or zs 0 d) is ∙ get_or-take (length run) (drop place items) 0 d some ∙ get_or-drop place items 0 d
+    ∙ ap (λ (n : ℕ). get_or items n d) (let e : place + 0 ≡ place = omega arith in e)
+
+-- ---- where the entries of one code begin and end
+
+pub starts_here : (code : ℕ) (es : List Entry) (place : ℕ) (x : Entry) → IsOrdered es → place ≤ below code (codes_in es) → Some x ≡ slice_get es place → code ≤ x.enc → place ≡ below code (codes_in es)
+starts_here code es place x ordered le is past =
+    elim (cases_lt place (below code (codes_in es))) [
+      | inl lt ↦ absurd (omega (arith, before_code code es place x ordered lt, ap (λ (e : Entry). e.enc) (get_or_from_slice_get es place x x (sym is)), past))
+      | inr ge ↦ omega arith
+    ]
+
+pub starts_past : (code : ℕ) (es : List Entry) (place : ℕ) → place ≤ below code (codes_in es) → None ≡ slice_get es place → place ≡ below code (codes_in es)
+starts_past code [] place le is = omega (arith, below-length code [])
+starts_past code (x ∷ xs) place le is =
+    elim (cases_lt place (length (x ∷ xs))) [
+      | inl lt ↦ absurd (let f : None ≡ Some (get_or (x ∷ xs) place x) = is ∙ slice_get-get_or (x ∷ xs) place x lt in cc)
+      | inr past ↦ omega (arith, below-length code (x ∷ xs))
+    ]
+
+pub ends_here : (code : ℕ) (es : List Entry) (start place : ℕ) → IsOrdered es → start ≡ below code (codes_in es) → start ≤ place → place ≤ length es → AllWithin (λ e. e.enc ≡ code) es start place → ((d : Entry) → place < length es → (get_or es place d).enc ≢ code) → place ≡ below (code + 1) (codes_in es)
+ends_here code es start place ordered begins from within same other =
+    point_below (code + 1) es place within (
+    (λ k d zero' to. elim (cases_lt k start) [
+      | inl before ↦ lt-ltb (get_or es k d).enc (code + 1) (omega (arith, before_code code es k d ordered (omega arith)))
+      | inr after ↦ lt-ltb (get_or es k d).enc (code + 1) (omega (arith, same k d after to))
+    ]),
+    (λ k d from' to.
+      let lt : place < length es = omega arith in
+      let at_least = from_code code es place d ordered (omega arith) lt in
+      let not_it = other d lt in
+      let more = codes-at es place k d ordered from' to in
+      le-ltb (get_or es k d).enc (code + 1) (omega arith)))

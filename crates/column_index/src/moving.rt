@@ -55,20 +55,30 @@ fn move_code(
     Ok(count)
 }
 
-/// Gives the entries of moved codes their new ones. Only these are touched: those of codes that stand side by side are found
-/// without a search.
+/// Gives the entries of moved codes their new ones. They are told by the entries before all changes: those of codes that stand
+/// side by side are found without a search.
+fn move_each(earlier: &Paged<Entry>, entries: &mut Paged<Entry>, moved: &[Recode]) -> Result<(), OutOfMemory>
+    requires ordered { IsOrdered earlier.now }
+    requires olds { IsIncreasing (map (λ pair. pair.old) moved.now) }
+    requires same { entries.old ≡ earlier.now }
+    ensures { IfOk result (λ _. entries.new ≡ map (recoded (new_code moved.now)) earlier.now) }
+{
+    let mut end = 0;
+    'pairs: for pair in moved {
+        let start = start_of(earlier, end, pair.old);
+        end = move_code(earlier, entries, start, *pair)?;
+    }
+    Ok(())
+}
+
+/// Gives the entries of moved codes their new ones. Only these entries are touched.
 pub fn move_codes(entries: &mut Paged<Entry>, moved: &[Recode]) -> Result<(), OutOfMemory>
     requires ordered { IsOrdered entries.old }
     requires olds { IsIncreasing (map (λ pair. pair.old) moved.now) }
     ensures { IfOk result (λ _. entries.new ≡ map (recoded (new_code moved.now)) entries.old) }
 {
-    let Ok(earlier) = entries.share() else {
-        return Err(OutOfMemory);
-    };
-    let mut end = 0;
-    'pairs: for pair in moved {
-        let start = start_of(&earlier, end, pair.old);
-        end = move_code(&earlier, entries, start, *pair)?;
+    match entries.share() {
+        Ok(earlier) => move_each(&earlier, entries, moved),
+        Err(_) => Err(OutOfMemory),
     }
-    Ok(())
 }

@@ -2,5 +2,7 @@ mod Codes
 mod Fronting
 mod Orders
 mod Points
+mod Ranging
 mod Recodings
 mod Sorting
+mod Whole

@@ -70,13 +70,13 @@ moving_on old new earlier first now after start place x d lt m read code made = 
     | inr other ↦ m.same k e from (omega arith)
   ];
   front = λ to at h.
-    let make : ℕ → Entry → Entry = λ enc e. record { enc = enc; row = e.row } in
-    let at_place : to (get_or earlier place d).enc ≡ new = ap (λ (e : Entry). to e.enc) (sym read) ∙ ap to code ∙ at in
-    made
-    ∙ ap (λ (zs : List Entry). set zs place (make new x)) (m.front to at h)
-    ∙ ap (λ (y : Entry). set (front (recoded to) earlier place) place y) (ap (make new) read ∙ sym (recoded-to to (get_or earlier place d) new at_place))
-    ∙ front-set (recoded to) earlier place d lt
-    ∙ ap (front (recoded to) earlier) (let e : suc place ≡ place + 1 = omega arith in e);
+      let make : ℕ → Entry → Entry = λ enc e. record { enc = enc; row = e.row } in
+      let at_place : to (get_or earlier place d).enc ≡ new = ap (λ (e : Entry). to e.enc) (sym read) ∙ ap to code ∙ at in
+      made
+      ∙ ap (λ (zs : List Entry). set zs place (make new x)) (m.front to at h)
+      ∙ ap (λ (y : Entry). set (front (recoded to) earlier place) place y) (ap (make new) read ∙ sym (recoded-to to (get_or earlier place d) new at_place))
+      ∙ front-set (recoded to) earlier place d lt
+      ∙ ap (front (recoded to) earlier) (let e : suc place ≡ place + 1 = omega arith in e);
 }
 
 -- ---- pair after pair
@@ -116,9 +116,9 @@ moved_on moved i d earlier now after end start next ordered up lt m begins ends 
       front = step (new_code moved) (new_code-at moved i d up lt) at_start;
       ahead = subst (λ (n : ℕ). BeginFrom n codes others) (sym ends) (BeginFrom-next codes pair others up_rest);
       rest = λ k e from to.
-        m.rest k e (omega arith) to
-        ∙ ap (λ (zs : List Recode). new_code zs (get_or earlier k e).enc) split
-        ∙ new_code-past pair others (get_or earlier k e).enc (λ f. let past = from_code (pair.old + 1) earlier k e ordered (omega arith) to in omega arith);
+          m.rest k e (omega arith) to
+          ∙ ap (λ (zs : List Recode). new_code zs (get_or earlier k e).enc) split
+          ∙ new_code-past pair others (get_or earlier k e).enc (λ f. let past = from_code (pair.old + 1) earlier k e ordered (omega arith) to in omega arith);
     }
 
 pub all_moved : (moved : List Recode) (i : ℕ) (earlier now : List Entry) (end : ℕ) → length moved ≤ i → AreMoved moved i earlier end now → now ≡ map (recoded (new_code moved)) earlier
@@ -127,8 +127,8 @@ all_moved moved i earlier now end past m =
     let none : drop i moved ≡ [] = drop_all i moved past in
     m.front
     ∙ front-stays (recoded (new_code moved)) earlier end (length earlier) nothing m.within (omega arith) (λ k from to.
-      recoded-stays (new_code moved) (get_or earlier k nothing) (
-      m.rest k nothing from to ∙ ap (λ (zs : List Recode). new_code zs (get_or earlier k nothing).enc) none ∙ new_code-nothing (get_or earlier k nothing).enc))
+    recoded-stays (new_code moved) (get_or earlier k nothing) (
+    m.rest k nothing from to ∙ ap (λ (zs : List Recode). new_code zs (get_or earlier k nothing).enc) none ∙ new_code-nothing (get_or earlier k nothing).enc))
     ∙ front-whole (recoded (new_code moved)) earlier
 
 pub ok_of : {X E : Type 0} {P : Type 0} (r : Result X E) → OnOk r P → is_err r ≡ false → P

@@ -207,13 +207,14 @@ starts_past code (x ∷ xs) place le is =
 pub ends_here : (code : ℕ) (es : List Entry) (start place : ℕ) → IsOrdered es → start ≡ below code (codes_in es) → start ≤ place → place ≤ length es → AllWithin (λ e. e.enc ≡ code) es start place → ((d : Entry) → place < length es → (get_or es place d).enc ≢ code) → place ≡ below (code + 1) (codes_in es)
 ends_here code es start place ordered begins from within same other =
     point_below (code + 1) es place within (
-    (λ k d zero' to. elim (cases_lt k start) [
-      | inl before ↦ lt-ltb (get_or es k d).enc (code + 1) (omega (arith, before_code code es k d ordered (omega arith)))
-      | inr after ↦ lt-ltb (get_or es k d).enc (code + 1) (omega (arith, same k d after to))
-    ]),
-    (λ k d from' to.
-      let lt : place < length es = omega arith in
-      let at_least = from_code code es place d ordered (omega arith) lt in
-      let not_it = other d lt in
-      let more = codes-at es place k d ordered from' to in
-      le-ltb (get_or es k d).enc (code + 1) (omega arith)))
+      (λ k d zero' to. elim (cases_lt k start) [
+        | inl before ↦ lt-ltb (get_or es k d).enc (code + 1) (omega (arith, before_code code es k d ordered (omega arith)))
+        | inr after ↦ lt-ltb (get_or es k d).enc (code + 1) (omega (arith, same k d after to))
+      ]),
+      (λ k d from' to.
+          let lt : place < length es = omega arith in
+          let at_least = from_code code es place d ordered (omega arith) lt in
+          let not_it = other d lt in
+          let more = codes-at es place k d ordered from' to in
+          le-ltb (get_or es k d).enc (code + 1) (omega arith)),
+    )

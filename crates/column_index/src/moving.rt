@@ -19,8 +19,14 @@ fn start_of(entries: &Paged<Entry>, place: usize, code: u64) -> usize
     ensures { result ≡ below code (codes_in entries.now) }
 {
     match entry_at(entries, place) {
-        Some(entry) if entry.enc < code => first_of(entries, code),
-        _ => place,
+        None => place,
+        Some(entry) => {
+            if entry.enc < code {
+                first_of(entries, code)
+            } else {
+                place
+            }
+        }
     }
 }
 
@@ -57,7 +63,11 @@ fn move_code(
 
 /// Gives the entries of moved codes their new ones. They are told by the entries before all changes: those of codes that stand
 /// side by side are found without a search.
-fn move_each(earlier: &Paged<Entry>, entries: &mut Paged<Entry>, moved: &[Recode]) -> Result<(), OutOfMemory>
+fn move_each(
+    earlier: &Paged<Entry>,
+    entries: &mut Paged<Entry>,
+    moved: &[Recode],
+) -> Result<(), OutOfMemory>
     requires ordered { IsOrdered earlier.now }
     requires olds { IsIncreasing (map (λ pair. pair.old) moved.now) }
     requires same { entries.old ≡ earlier.now }

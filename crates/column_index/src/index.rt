@@ -1,10 +1,10 @@
 //! The index itself.
 ghost use Rattle.code_changes.specs.Changes.{new_code};
 ghost use Rattle.column_index.specs.Entries.{IsOrdered, codes_in, holds_entry, put, without};
-ghost use Rattle.column_index.specs.Ranges.{IsRange, range_of};
+ghost use Rattle.column_index.specs.Ranges.{IsRange, count_between, range_of};
 ghost use Rattle.column_index.specs.Recoding.{KeepsOrder, recoded};
 ghost use Rattle.column_index.specs.Seen.{index_of, spent_index};
-ghost use Rattle.std.specs.Prelude.{◌≡◌, ◌-◌, [], IfOk, IsErr, OnErr, OnOk, false, length, map, max, slice_get, true};
+ghost use Rattle.std.specs.Prelude.{◌≡◌, [], IfOk, IsErr, OnErr, OnOk, false, length, map, max, slice_get, true};
 ghost use Rattle.tree_model.specs.Places.{IsIncreasing};
 
 use crate::entry::Entry;
@@ -128,7 +128,7 @@ impl Index {
 
     /// How many entries have codes from `low` to `high`.
     pub fn count(&self, low: u64, high: u64) -> usize
-        ensures { result ≡ (range_of low high (codes_in self.now.entries)).1 - (range_of low high (codes_in self.now.entries)).0 }
+        ensures { result ≡ count_between low high self.now.entries }
     {
         let (first, end) = self.range(low, high);
         end - first

@@ -1,9 +1,8 @@
 -- The new code of one that moved.
-use Rattle.std.proofs.Common.{◌≡◌, ◌≢◌, ℕ, ◌+◌, suc, zero, ◌<◌, ◌≤◌, Bool, true, false, eqb, ltb, List, [], ◌∷◌, length, map, take, drop, get_or, refl, ap, ◌∙◌, sym, subst, arith, inl, inr, eq-eqb, ne_eqb, lt-ltb, le-ltb}
+use Rattle.std.proofs.Common.{◌≡◌, ◌≢◌, ℕ, ◌+◌, suc, zero, ◌<◌, ◌≤◌, List, [], ◌∷◌, length, map, drop, get_or, refl, ◌∙◌, arith, inl, inr, eq-eqb, ne_eqb, lt-ltb, le-ltb}
 use Rattle.std.proofs.lemmas.Bool.{cases_lt}
 use Rattle.path_code.specs.declared.moves.Recode.{Recode}
 use Rattle.tree_model.specs.Places.{below, one_if, IsBelowAll, IsIncreasing}
-use Rattle.tree_model.proofs.Ordered.{below-cons_lt}
 use Rattle.code_changes.specs.Changes.{new_code, new_if}
 use Rattle.column_index.specs.Fronts.{BeginFrom}
 

@@ -1,5 +1,5 @@
 -- The order of entries: by code, and by row where the codes are equal.
-use Rattle.std.proofs.Common.{◌≡◌, ◌≢◌, ℕ, ◌<◌, ◌≤◌, Bool, true, false, ltb, eqb, ◌⊎◌, refl, ap, ap₂, ◌∙◌, sym, subst, inl, inr, arith, lt-ltb, le-ltb, eq-eqb, ne_eqb}
+use Rattle.std.proofs.Common.{◌≡◌, ◌≢◌, ℕ, ◌<◌, ◌≤◌, true, false, ◌⊎◌, refl, ap, ap₂, ◌∙◌, sym, inl, inr, arith, lt-ltb, le-ltb, eq-eqb, ne_eqb}
 use Rattle.std.proofs.lemmas.Bool.{cases_order, cases_lt, cases_Bool, cases_eq}
 use Rattle.column_index.specs.declared.entry.Entry.{Entry}
 use Rattle.column_index.specs.Entries.{precedes, is_same}

@@ -1,18 +1,18 @@
 -- Where entries stand in an index, told by a place that parts it.
-use Rattle.std.proofs.Common.{◌≡◌, ◌≢◌, ℕ, ◌+◌, suc, zero, ◌<◌, ◌≤◌, Bool, true, false, ltb, List, [], ◌∷◌, ◌++◌, length, map, take, drop, get_or, refl, ap, ◌∙◌, sym, subst, arith, inl, inr, lt-ltb, le-ltb}
-use Rattle.std.proofs.lemmas.List.{length-map, get_or-take, get_or-drop, get_or_default}
+use Rattle.std.proofs.Common.{◌≡◌, ◌≢◌, ℕ, ◌+◌, suc, zero, ◌<◌, ◌≤◌, true, false, ltb, List, [], ◌∷◌, length, map, take, drop, get_or, refl, ap, ◌∙◌, sym, subst, arith, inl, inr, lt-ltb, le-ltb}
+use Rattle.std.proofs.lemmas.List.{length-map, get_or-take, get_or-drop}
 use borrow.Author.Tests.{ltb-true}
 use Rattle.std.specs.Prelude.{Some, None}
 use Rattle.std.specs.List.{AllWithin, insert, remove, slice_get}
 use Rattle.std.proofs.lemmas.Option.{slice_get-get_or, slice_get_past, get_or_from_slice_get}
 use Rattle.std.specs.List.Sorted.{IsPartitionPoint, IsPartitionedBy}
-use Rattle.std.proofs.lemmas.Bool.{cases_order, cases_lt, cases_Bool, cases_eq}
+use Rattle.std.proofs.lemmas.Bool.{cases_lt, cases_eq}
 use Rattle.tree_model.specs.Places.{below, one_if}
-use Rattle.tree_model.proofs.Ordered.{below-cons_lt, below-le}
+use Rattle.tree_model.proofs.Ordered.{below-le}
 use Rattle.column_index.specs.declared.entry.Entry.{Entry}
 use Rattle.column_index.specs.Entries.{precedes, is_same, holds_entry, is_entry, put, without, codes_in, PrecedesAll, IsOrdered}
-use Rattle.column_index.proofs.Orders.{Before-of, Before-not_itself, Before-le, precedes-true, precedes-trans, precedes-asym, precedes-other, is_same-true, is_same-false, other_of_false, cases_same}
-use Rattle.column_index.proofs.Sorting.{put-nothing, put-first, put-later, without-here, without-later, holds-apart, holds-cons, holds-nothing, PrecedesAll-trans}
+use Rattle.column_index.proofs.Orders.{Before-of, Before-not_itself, Before-le, precedes-trans, precedes-asym, precedes-other, is_same-false, other_of_false}
+use Rattle.column_index.proofs.Sorting.{put-nothing, put-first, put-later, without-here, without-later, holds-apart, holds-nothing, PrecedesAll-trans}
 
 -- ---- order by place
 

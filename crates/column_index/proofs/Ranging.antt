@@ -1,5 +1,5 @@
 -- The entries whose codes are between two ends.
-use Rattle.std.proofs.Common.{◌≡◌, ℕ, ◌+◌, suc, zero, ◌<◌, ◌≤◌, Bool, true, false, ◌&&◌, nat_le, max, List, [], ◌∷◌, length, get_or, refl, ap, ap₂, ◌∙◌, sym, arith, le-leb}
+use Rattle.std.proofs.Common.{◌≡◌, ℕ, ◌+◌, suc, zero, ◌<◌, ◌≤◌, true, false, ◌&&◌, nat_le, max, List, [], ◌∷◌, refl, ap₂, ◌∙◌, arith, le-leb}
 use Rattle.std.proofs.lemmas.Bool.{lt-leb}
 use Rattle.tree_model.specs.Places.{below, one_if}
 use Rattle.column_index.specs.declared.entry.Entry.{Entry}

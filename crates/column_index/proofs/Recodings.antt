@@ -1,8 +1,8 @@
 -- Entries whose codes become others in the same order.
-use Rattle.std.proofs.Common.{◌≡◌, ℕ, ◌<◌, ◌≤◌, Bool, true, false, List, [], ◌∷◌, map, refl, ap, ◌∙◌, sym, subst, inl, inr, arith}
-use Rattle.std.proofs.lemmas.Bool.{cases_order, cases_lt, cases_Bool, cases_eq}
+use Rattle.std.proofs.Common.{◌≡◌, ℕ, ◌<◌, true, false, List, [], ◌∷◌, map, refl, ap, ◌∙◌, sym, subst, inl, inr, arith}
+use Rattle.std.proofs.lemmas.Bool.{cases_order, cases_Bool, cases_eq}
 use Rattle.mope_base.specs.Lists.{Each}
-use Rattle.tree_model.specs.Places.{holds, IsBelowAll, IsIncreasing}
+use Rattle.tree_model.specs.Places.{IsBelowAll, IsIncreasing}
 use Rattle.tree_model.proofs.Ordered.{holds-cons_eq, holds-cons_ne}
 use Rattle.code_changes.specs.Changes.{IsIn}
 use Rattle.code_changes.proofs.Lists.{holds-nil, IsIn-cons, lt_of_IsIn}

@@ -1,9 +1,9 @@
 -- The index as a function of the rows: entries put one after another.
-use Rattle.std.proofs.Common.{◌≡◌, ℕ, ◌<◌, Bool, true, false, ◌||◌, List, [], ◌∷◌, ◌++◌, map, refl, ap, ◌∙◌, sym, inl, inr}
+use Rattle.std.proofs.Common.{◌≡◌, Bool, true, false, ◌||◌, List, [], ◌∷◌, ◌++◌, refl, ap, ◌∙◌, sym, inl, inr}
 use Rattle.std.proofs.lemmas.Bool.{cases_Bool}
 use Rattle.column_index.specs.declared.entry.Entry.{Entry}
 use Rattle.column_index.specs.Entries.{precedes, is_same, holds_entry, put, without, sorted, PrecedesAll, IsOrdered}
-use Rattle.column_index.proofs.Orders.{Before, Before-of, precedes-true, cases_entries, precedes-asym, precedes-trans, precedes-false, precedes-other, is_same-itself, other_of_false, is_same-false, is_same-true}
+use Rattle.column_index.proofs.Orders.{precedes-true, cases_entries, precedes-asym, precedes-trans, precedes-other, is_same-itself, other_of_false}
 
 pub put-nothing : (e : Entry) → put e [] ≡ e ∷ []
 unfolding put

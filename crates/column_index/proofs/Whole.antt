@@ -1,5 +1,5 @@
 -- An index by its entries and whether it is spent.
-use Rattle.std.proofs.Common.{◌≡◌, Bool, true, false, List, [], refl, ap, ap₂, ◌∙◌, sym}
+use Rattle.std.proofs.Common.{◌≡◌, Bool, true, false, List, ap, ap₂, ◌∙◌, sym}
 use Rattle.column_index.specs.declared.entry.Entry.{Entry}
 use Rattle.column_index.specs.Entries.{IsOrdered}
 use Rattle.column_index.specs.Seen.{Seen, IsSound, index_of, spent_index}

@@ -1,5 +1,5 @@
 -- A list of entries of which those before a place have been given their new codes.
-use Rattle.std.specs.Prelude.{◌≡◌, ℕ, ◌≤◌, ◌<◌, List, [], ◌∷◌, ◌++◌, map, take, drop, length}
+use Rattle.std.specs.Prelude.{◌≡◌, ℕ, ◌≤◌, List, [], ◌∷◌, ◌++◌, map, take, drop, length}
 use Rattle.std.specs.List.{AllWithin}
 use Rattle.tree_model.specs.Places.{below}
 use Rattle.path_code.specs.declared.moves.Recode.{Recode}

@@ -1,9 +1,9 @@
 -- The index as a function of the rows: the statements of the laws that this crate's functions without a body prove.
-use Rattle.std.specs.Prelude.{◌≡◌, ℕ, true, false, List, [], ◌∷◌, ◌++◌, map}
+use Rattle.std.specs.Prelude.{◌≡◌, ℕ, false, List, [], ◌∷◌, ◌++◌, map}
 use Rattle.tree_model.specs.Places.{IsIncreasing}
 use Rattle.code_changes.specs.Changes.{IsIn}
 use Rattle.column_index.specs.declared.entry.Entry.{Entry}
-use Rattle.column_index.specs.Entries.{holds_entry, IsOrdered, put, without, sorted, codes_in}
+use Rattle.column_index.specs.Entries.{holds_entry, put, without, sorted, codes_in}
 use Rattle.column_index.specs.Recoding.{recoded, KeepsOrder}
 
 -- the order in which two entries are put makes no difference

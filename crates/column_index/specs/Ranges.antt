@@ -1,9 +1,8 @@
 -- The entries whose codes are between two ends.
-use Rattle.std.specs.Prelude.{◌≡◌, ℕ, ◌+◌, ◌<◌, ◌≤◌, ◌&&◌, nat_le, max, List, [], ◌∷◌, length}
+use Rattle.std.specs.Prelude.{ℕ, ◌+◌, ◌<◌, ◌≤◌, ◌&&◌, nat_le, max, List, [], ◌∷◌, length}
 use Rattle.std.specs.List.{AllWithin}
 use Rattle.tree_model.specs.Places.{below, one_if}
 use Rattle.column_index.specs.declared.entry.Entry.{Entry}
-use Rattle.column_index.specs.Entries.{codes_in}
 
 -- where the codes from `low` to `high` begin among increasing ones, and where they end: nowhere else than where they begin if there are none
 unfoldable pub range_of : ℕ → ℕ → List ℕ → ℕ × ℕ

@@ -1,5 +1,5 @@
 -- Entries whose codes become others, in the same order.
-use Rattle.std.specs.Prelude.{◌≡◌, ℕ, ◌<◌, List, map}
+use Rattle.std.specs.Prelude.{ℕ, ◌<◌, List}
 use Rattle.code_changes.specs.Changes.{IsIn}
 use Rattle.column_index.specs.declared.entry.Entry.{Entry}
 

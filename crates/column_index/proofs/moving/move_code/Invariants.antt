@@ -1,5 +1,3 @@
-use Rattle.std.proofs.Common.{◌≡◌, ℕ, length}
-use Rattle.std.specs.List.{AllWithin}
 use Rattle.column_index.specs.Fronts.{IsMoving}
 use Rattle.column_index.proofs.moving.move_code.Given as goal
 

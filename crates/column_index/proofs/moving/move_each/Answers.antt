@@ -1,4 +1,4 @@
-use Rattle.std.proofs.Common.{◌≡◌, ℕ, ◌<◌, length, arith}
+use Rattle.std.proofs.Common.{arith}
 use Rattle.path_code.specs.declared.moves.Recode.{Recode}
 use Rattle.column_index.proofs.Fronting.{none_moved, begins_ahead, moved_on, all_moved}
 use Rattle.column_index.proofs.moving.move_each.Goals as goal

@@ -1,4 +1,4 @@
-use Rattle.std.proofs.Common.{ℕ, ◌+◌}
+use Rattle.std.proofs.Common.{◌+◌}
 use Rattle.column_index.proofs.Points.{parted_codes, point_below}
 use Rattle.column_index.proofs.placing.end_of.Goals as goal
 

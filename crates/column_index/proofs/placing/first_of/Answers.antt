@@ -1,4 +1,3 @@
-use Rattle.std.proofs.Common.{ℕ, ◌+◌}
 use Rattle.column_index.proofs.Points.{parted_codes, point_below}
 use Rattle.column_index.proofs.placing.first_of.Goals as goal
 

@@ -1,5 +1,4 @@
-use Rattle.std.proofs.Common.{◌≡◌, rules, refl, arith}
-use Rattle.std.proofs.lemmas.Grind.{common_steps}
+use Rattle.std.proofs.Common.{rules}
 use Rattle.column_index.specs.Entries.{precedes}
 use Rattle.column_index.proofs.entry.Entry.precedes.Goals as goal
 

@@ -1,4 +1,4 @@
-use Rattle.std.proofs.Common.{◌≡◌, ◌-◌, arith}
+use Rattle.std.proofs.Common.{arith}
 use Rattle.column_index.proofs.Ranging.{count_of_range}
 use Rattle.column_index.proofs.index.Index.count.Goals as goal
 

@@ -1,4 +1,4 @@
-use Rattle.std.proofs.Common.{◌≡◌, List, [], true, ap, sym, subst}
+use Rattle.std.proofs.Common.{List, true, ap, sym, subst}
 use Rattle.column_index.specs.declared.entry.Entry.{Entry}
 use Rattle.column_index.specs.Entries.{IsOrdered}
 use Rattle.column_index.specs.Seen.{index_of, spent_index, Seen}

@@ -1,5 +1,4 @@
-use Rattle.std.proofs.Common.{◌≡◌, List, false, ap, ◌∙◌, sym, subst}
-use Rattle.column_index.specs.declared.entry.Entry.{Entry}
+use Rattle.std.proofs.Common.{ap, ◌∙◌, sym, subst}
 use Rattle.column_index.specs.Entries.{IsOrdered, holds_entry, put}
 use Rattle.column_index.proofs.Sorting.{IsOrdered-put}
 use Rattle.column_index.proofs.Whole.{is_spent, entries_are, sound_of, index_is}

@@ -1,4 +1,4 @@
-use Rattle.std.proofs.Common.{◌≡◌, List, false, ap, ◌∙◌, sym, subst}
+use Rattle.std.proofs.Common.{List, ap, ◌∙◌, sym, subst}
 use Rattle.column_index.specs.declared.entry.Entry.{Entry}
 use Rattle.code_changes.specs.Changes.{new_code}
 use Rattle.std.specs.Prelude.{map}

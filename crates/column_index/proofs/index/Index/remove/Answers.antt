@@ -1,5 +1,4 @@
-use Rattle.std.proofs.Common.{◌≡◌, List, false, ap, ◌∙◌, sym, subst}
-use Rattle.column_index.specs.declared.entry.Entry.{Entry}
+use Rattle.std.proofs.Common.{ap, ◌∙◌, sym, subst}
 use Rattle.column_index.specs.Entries.{IsOrdered, without}
 use Rattle.column_index.proofs.Sorting.{IsOrdered-without}
 use Rattle.column_index.proofs.Whole.{is_spent, entries_are, sound_of, index_is}

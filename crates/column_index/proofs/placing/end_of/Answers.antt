@@ -1,0 +1,9 @@
+use Rattle.std.proofs.Common.{◌+◌}
+use Rattle.column_index.proofs.Points.{parted_codes, point_below}
+use Rattle.column_index.proofs.placing.end_of.Goals as goal
+
+pub partition_point-requires : goal.partition_point-requires
+partition_point-requires c = parted_codes c.args.entries.now (c.args.code + 1) c.requires
+
+pub returns : goal.returns
+returns c = point_below (c.args.code + 1) c.args.entries.now c.partition_point.result c.partition_point.ensures.bound c.partition_point.ensures.point

@@ -1,8 +1,8 @@
-mod Codes
-mod Fronting
-mod Orders
-mod Points
-mod Ranging
-mod Recodings
-mod Sorting
-mod Whole
+pub mod Codes
+pub mod Fronting
+pub mod Orders
+pub mod Points
+pub mod Ranging
+pub mod Recodings
+pub mod Sorting
+pub mod Whole

@@ -208,7 +208,7 @@ sound_fits_rows v same_time limit t column sound h =
     let c = column_at t.columns column in
     let s = sound.columns column h in
     let rows = column_values v column t.rows in
-    let many : 2 * c.most ≤ 3 * length t.rows = omega (arith, most_within_rows v c rows s.tallied s.kept.dense, length_values v column t.rows) in
+    let many : 2 * c.most ≤ 3 * length t.rows = omega (arith, most_within_rows (keys v c) c rows s.tallied s.kept.dense, length_values v column t.rows) in
     let twice : 2 * c.most ≤ 3 * limit = omega (arith, many, sound.few) in
     record {
       items = s.kept.fits;

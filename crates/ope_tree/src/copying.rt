@@ -1,4 +1,4 @@
-//! Copies of trees: a second tree with the same items, and an arena that has grown large made small again.
+//! A second tree with the same items, and an arena that has grown large made small again.
 ghost use Rattle.ope_tree.specs.Built.{IsBuilt};
 ghost use Rattle.ope_tree.specs.Nodes.{IsLink, tree_of};
 ghost use Rattle.std.specs.Prelude.{◌≡◌, false, true, IfOk, IsErr};
@@ -42,7 +42,8 @@ pub fn compacted(nodes: &mut Arena, root: Option<u32>) -> Result<Option<u32>, Ou
 }
 
 impl Tree {
-    /// A tree with the same column. A spent tree has no copy: the answer is `OutOfMemory`.
+    /// A second tree with the same column, which shares its nodes with this one: it costs the same whatever their size, and a
+    /// later change of either copies the few pages that it touches. A spent tree has no copy: the answer is `OutOfMemory`.
     pub fn copy(&self) -> Result<Tree, OutOfMemory>
         ensures column { IfOk result (λ copy. copy.column ≡ self.now.column) }
         ensures fresh { IfOk result (λ copy. copy.spent ≡ false) }
@@ -51,11 +52,9 @@ impl Tree {
         if self.spent {
             return Err(OutOfMemory);
         }
-        let mut nodes = self.nodes.fresh();
-        let root = copied(&self.nodes, self.root, &mut nodes)?;
         Ok(Tree {
-            nodes,
-            root,
+            nodes: self.nodes.share()?,
+            root: self.root,
             alive: self.alive,
             most: self.most,
             spent: false,

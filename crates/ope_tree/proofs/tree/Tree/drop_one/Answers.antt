@@ -17,9 +17,9 @@ returns-in-Ok-clause-suits c = λ suits.
     (subst (λ (seen : Seen). SuitsMode m seen.column) (sym c.self.view_is) suits)
 
 pub returns-in-Err-clause-short : goal.returns-in-Err-clause-short
-returns-in-Err-clause-short c = sound_short c.drop.inside.nodes c.drop.inside.root c.drop.inside.alive c.drop.inside.most c.drop.inside.spent c.drop.invariant
+returns-in-Err-clause-short c = sound_short c.gone-in-Err.inside.nodes c.gone-in-Err.inside.root c.gone-in-Err.inside.alive c.gone-in-Err.inside.most c.gone-in-Err.inside.spent c.gone-in-Err.invariant
 
 pub returns-in-Err-clause-suits : goal.returns-in-Err-clause-suits
 returns-in-Err-clause-suits c = λ _.
-    let gone = c.drop.inside in
-    suits_empty (is_same_time c.args.mode) true (seen_of gone.nodes gone.root gone.most gone.spent) (c.drop.view_is ∙ c.gone.ensures)
+    let gone = c.gone-in-Err.inside in
+    suits_empty (is_same_time c.args.mode) true (seen_of gone.nodes gone.root gone.most gone.spent) (c.gone-in-Err.view_is ∙ c.gone.ensures)

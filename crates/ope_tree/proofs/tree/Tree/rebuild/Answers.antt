@@ -21,7 +21,7 @@ pub returns-in-Ok-clause-short : goal.returns-in-Ok-clause-short
 returns-in-Ok-clause-short c = sound_short c.laid.new.nodes c.in-Ok.done.root c.in-Ok.done.alive c.in-Ok.done.most false c.in-Ok.ensures.sound
 
 pub returns-in-Err-clause-short : goal.returns-in-Err-clause-short
-returns-in-Err-clause-short c = sound_short c.drop.inside.nodes c.drop.inside.root c.drop.inside.alive c.drop.inside.most c.drop.inside.spent c.drop.invariant
+returns-in-Err-clause-short c = sound_short c.gone-in-Err.inside.nodes c.gone-in-Err.inside.root c.gone-in-Err.inside.alive c.gone-in-Err.inside.most c.gone-in-Err.inside.spent c.gone-in-Err.invariant
 
 pub returns-in-Ok-clause-change : goal.returns-in-Ok-clause-change
 returns-in-Ok-clause-change c = λ same_time.
@@ -38,5 +38,5 @@ returns-in-Ok-clause-suits c = λ same_time suits.
 
 pub returns-in-Err-clause-suits : goal.returns-in-Err-clause-suits
 returns-in-Err-clause-suits c = λ same_time _.
-    let gone = c.drop.inside in
-    suits_empty same_time true (seen_of gone.nodes gone.root gone.most gone.spent) (c.drop.view_is ∙ c.gone.ensures)
+    let gone = c.gone-in-Err.inside in
+    suits_empty same_time true (seen_of gone.nodes gone.root gone.most gone.spent) (c.gone-in-Err.view_is ∙ c.gone.ensures)

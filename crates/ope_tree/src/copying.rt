@@ -54,9 +54,7 @@ impl Tree {
         }
         Ok(Tree {
             nodes: self.nodes.share()?,
-            root: self.root,
-            alive: self.alive,
-            most: self.most,
+            shape: self.shape,
             spent: false,
         })
     }

@@ -6,7 +6,7 @@ ghost use Rattle.ope_tree.specs.Built.{IsBuilt};
 ghost use Rattle.ope_tree.specs.Dropped.{IsDropChange};
 ghost use Rattle.ope_tree.specs.Listed.{count_at};
 ghost use Rattle.ope_tree.specs.Nodes.{IsLink, item_of, tree_of};
-ghost use Rattle.ope_tree.specs.Seen.{IsSound, column_of, empty_seen};
+ghost use Rattle.ope_tree.specs.Seen.{IsShape, column_in, empty_seen};
 ghost use Rattle.path_code.specs.Sums.{sum_of};
 ghost use Rattle.std.specs.Prelude.{◌≡◌, ◌+◌, ◌^◌, ◌<◌, ◌≤◌, ◌&&◌, [], ◌∷◌, false, true, slice_get, IfOk, OnOk, OnErr};
 ghost use Rattle.tree_model.specs.ColumnLaws.{IsKept, SuitsMode};
@@ -24,6 +24,7 @@ use crate::done::Done;
 use crate::nodes::Entry;
 use crate::reading::entry_at;
 use crate::removing::withdrawn;
+use crate::shape::Shape;
 use crate::sweeping::pruned;
 use mope_base::{Mode, OutOfMemory};
 use scapegoat::needs_whole;
@@ -98,68 +99,57 @@ fn has_no_rows(nodes: &Arena, link: Option<u32>, rank: u32) -> bool
 }
 
 /// Whether the item of a rank, which has just lost a row, goes and the tree isn't balanced whole.
-fn leaves(nodes: &Arena, root: Option<u32>, alive: u32, most: u32, rank: u32, mode: Mode) -> bool
-    requires link { IsLink nodes.now root }
-    requires alive { alive ≡ live (inorder (tree_of nodes.now root)) }
-    ensures { result ≡ goes_alone (is_same_time mode) most (inorder (tree_of nodes.now root)) rank }
+fn leaves(nodes: &Arena, shape: Shape, rank: u32, mode: Mode) -> bool
+    requires link { IsLink nodes.now shape.root }
+    requires alive { shape.alive ≡ live (inorder (tree_of nodes.now shape.root)) }
+    ensures { result ≡ goes_alone (is_same_time mode) shape.most (inorder (tree_of nodes.now shape.root)) rank }
 {
-    if needs_whole(u64::from(alive), u64::from(most)) {
+    if needs_whole(u64::from(shape.alive), u64::from(shape.most)) {
         return false;
     }
     match mode {
         Mode::Ordinary => false,
-        Mode::SameTime => has_no_rows(nodes, root, rank),
+        Mode::SameTime => has_no_rows(nodes, shape.root, rank),
     }
 }
 
 /// The tree of a link, whose item of a rank has just lost a row: that item goes where its mode says so, and where too few
 /// items have rows, the tree becomes the balanced tree of those.
-fn tidied(
-    nodes: &mut Arena,
-    root: Option<u32>,
-    alive: u32,
-    most: u32,
-    rank: u32,
-    mode: Mode,
-) -> Result<Done, OutOfMemory>
-    requires link { IsLink nodes.old root }
-    requires short { height (tree_of nodes.old root) ≤ 63 }
-    requires is_rank { rank < size (tree_of nodes.old root) }
-    requires alive { alive ≡ live (inorder (tree_of nodes.old root)) }
-    ensures link { IfOk result (λ done. IsLink nodes.new done.root) }
-    ensures column { IfOk result (λ done. column_of nodes.new done.root done.most ≡ pruned (taken_out (is_same_time mode && is_dead (slice_get (inorder (tree_of nodes.old root)) rank)) (tree_of nodes.old root) rank) most) }
-    ensures alive { IfOk result (λ done. done.alive ≡ live (inorder (tree_of nodes.new done.root))) }
-    ensures few { IfOk result (λ done. done.most < 2 ^ 32) }
-    ensures change { IfOk result (λ done. IsDropChange (is_same_time mode) most rank (tree_of nodes.old root) done.change) }
+fn tidied(nodes: &mut Arena, shape: Shape, rank: u32, mode: Mode) -> Result<Done, OutOfMemory>
+    requires link { IsLink nodes.old shape.root }
+    requires short { height (tree_of nodes.old shape.root) ≤ 63 }
+    requires is_rank { rank < size (tree_of nodes.old shape.root) }
+    requires alive { shape.alive ≡ live (inorder (tree_of nodes.old shape.root)) }
+    ensures link { IfOk result (λ done. IsLink nodes.new done.shape.root) }
+    ensures column { IfOk result (λ done. column_in nodes.new done.shape ≡ pruned (taken_out (is_same_time mode && is_dead (slice_get (inorder (tree_of nodes.old shape.root)) rank)) (tree_of nodes.old shape.root) rank) shape.most) }
+    ensures alive { IfOk result (λ done. done.shape.alive ≡ live (inorder (tree_of nodes.new done.shape.root))) }
+    ensures few { IfOk result (λ done. done.shape.most < 2 ^ 32) }
+    ensures change { IfOk result (λ done. IsDropChange (is_same_time mode) shape.most rank (tree_of nodes.old shape.root) done.change) }
 {
-    if leaves(nodes, root, alive, most, rank, mode) {
-        return withdrawn(nodes, root, alive, most, rank);
+    if leaves(nodes, shape, rank, mode) {
+        return withdrawn(nodes, shape, rank);
     }
-    pruned(nodes, root, alive, most)
+    pruned(nodes, shape)
 }
 
 /// One row fewer at the item of a rank of the tree of a link.
-fn dropped(
-    nodes: &mut Arena,
-    root: Option<u32>,
-    alive: u32,
-    most: u32,
-    rank: u32,
-    mode: Mode,
-) -> Result<Done, OutOfMemory>
-    requires sound { IsSound nodes.old root alive most false }
-    requires is_rank { rank < size (tree_of nodes.old root) }
-    ensures sound { IfOk result (λ done. IsSound nodes.new done.root done.alive done.most false) }
-    ensures column { IfOk result (λ done. column_of nodes.new done.root done.most ≡ drop_one (is_same_time mode) rank (column_of nodes.old root most)) }
-    ensures change { IfOk result (λ done. done.change ≡ sum_of (is_same_time mode) (Drop rank ∷ []) (column_of nodes.old root most)) }
+fn dropped(nodes: &mut Arena, shape: Shape, rank: u32, mode: Mode) -> Result<Done, OutOfMemory>
+    requires sound { IsShape nodes.old shape }
+    requires is_rank { rank < size (tree_of nodes.old shape.root) }
+    ensures sound { IfOk result (λ done. IsShape nodes.new done.shape) }
+    ensures column { IfOk result (λ done. column_in nodes.new done.shape ≡ drop_one (is_same_time mode) rank (column_in nodes.old shape)) }
+    ensures change { IfOk result (λ done. done.change ≡ sum_of (is_same_time mode) (Drop rank ∷ []) (column_in nodes.old shape)) }
 {
-    let fewer = lowered(nodes, root, rank)?;
-    let done = tidied(nodes, fewer.link, alive - fewer.emptied, most, rank, mode)?;
-    let root = compacted(nodes, done.root)?;
+    let fewer = lowered(nodes, shape.root, rank)?;
+    let lower = Shape {
+        root: fewer.link,
+        alive: shape.alive - fewer.emptied,
+        most: shape.most,
+    };
+    let done = tidied(nodes, lower, rank, mode)?;
+    let root = compacted(nodes, done.shape.root)?;
     Ok(Done {
-        root,
-        alive: done.alive,
-        most: done.most,
+        shape: Shape { root, ..done.shape },
         change: done.change,
     })
 }
@@ -182,19 +172,10 @@ impl Tree {
         ensures suits { SuitsMode (is_same_time mode) self.old.column → SuitsMode (is_same_time mode) self.new.column }
         ensures short { height self.new.column.tree ≤ 63 }
     {
-        let done = dropped(
-            &mut self.nodes,
-            self.root,
-            self.alive,
-            self.most,
-            rank,
-            mode,
-        );
+        let done = dropped(&mut self.nodes, self.shape, rank, mode);
         match done {
             Ok(done) => {
-                self.root = done.root;
-                self.alive = done.alive;
-                self.most = done.most;
+                self.shape = done.shape;
                 Ok(done.change)
             }
             Err(_) => {

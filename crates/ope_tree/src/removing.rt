@@ -12,6 +12,7 @@ use crate::change::Change;
 use crate::done::Done;
 use crate::moving::removal_moved;
 use crate::nodes::Entry;
+use crate::shape::Shape;
 use crate::ways::path_to;
 use mope_base::OutOfMemory;
 use path_code::{code, root as root_path};
@@ -96,33 +97,26 @@ fn removed(nodes: &mut Arena, link: Option<u32>, rank: u32) -> Result<Option<u32
     Ok(fewer)
 }
 
-/// The tree of a link, of whose items `alive` have rows, without the item of a rank, which has none. Only the codes of the
+/// A tree without the item of a rank, which has no rows. Only the codes of the
 /// part that moves up are computed.
-pub fn withdrawn(
-    nodes: &mut Arena,
-    root: Option<u32>,
-    alive: u32,
-    most: u32,
-    rank: u32,
-) -> Result<Done, OutOfMemory>
-    requires link { IsLink nodes.old root }
-    requires short { height (tree_of nodes.old root) ≤ 63 }
-    requires is_rank { rank < size (tree_of nodes.old root) }
-    ensures link { IfOk result (λ done. IsLink nodes.new done.root) }
-    ensures tree { IfOk result (λ done. tree_of nodes.new done.root ≡ remove_tree (tree_of nodes.old root) rank) }
-    ensures alive { IfOk result (λ done. done.alive ≡ alive) }
-    ensures most { IfOk result (λ done. done.most ≡ most) }
-    ensures change { IfOk result (λ done. done.change ≡ removal_sum (tree_of nodes.old root) rank) }
+pub fn withdrawn(nodes: &mut Arena, shape: Shape, rank: u32) -> Result<Done, OutOfMemory>
+    requires link { IsLink nodes.old shape.root }
+    requires short { height (tree_of nodes.old shape.root) ≤ 63 }
+    requires is_rank { rank < size (tree_of nodes.old shape.root) }
+    ensures link { IfOk result (λ done. IsLink nodes.new done.shape.root) }
+    ensures tree { IfOk result (λ done. tree_of nodes.new done.shape.root ≡ remove_tree (tree_of nodes.old shape.root) rank) }
+    ensures alive { IfOk result (λ done. done.shape.alive ≡ shape.alive) }
+    ensures most { IfOk result (λ done. done.shape.most ≡ shape.most) }
+    ensures change { IfOk result (λ done. done.change ≡ removal_sum (tree_of nodes.old shape.root) rank) }
 {
     let alloc = nodes.allocator();
-    let moved = removal_moved(nodes, root, root_path(), rank)?;
+    let moved = removal_moved(nodes, shape.root, root_path(), rank)?;
     let mut dropped = Vec::new(alloc);
-    dropped.push(code(path_to(nodes, root, Place::Found(rank), root_path())))?;
-    let root = removed(nodes, root, rank)?;
+    let path = path_to(nodes, shape.root, Place::Found(rank), root_path());
+    dropped.push(code(path))?;
+    let root = removed(nodes, shape.root, rank)?;
     Ok(Done {
-        root,
-        alive,
-        most,
+        shape: Shape { root, ..shape },
         change: Change::of(moved, dropped, Vec::new(alloc)),
     })
 }

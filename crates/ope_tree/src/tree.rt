@@ -9,6 +9,7 @@ ghost use Rattle.mope_base.specs.declared.body.Body.{Body};
 
 use crate::arena::Arena;
 use crate::building::size_of;
+use crate::shape::Shape;
 use std::alloc::Global;
 use std::marker::Model;
 
@@ -19,9 +20,7 @@ use std::marker::Model;
 #[derive(Drop)]
 pub struct Tree {
     pub(crate) nodes: Arena,
-    pub(crate) root: Option<u32>,
-    pub(crate) alive: u32,
-    pub(crate) most: u32,
+    pub(crate) shape: Shape,
     pub(crate) spent: bool,
 }
 
@@ -32,9 +31,9 @@ impl Model for Tree {
 
     ghost coded = { seen_code };
 
-    ghost view = { λ t. seen_of t.nodes t.root t.most t.spent };
+    ghost view = { λ t. seen_of t.nodes t.shape.root t.shape.most t.spent };
 
-    ghost invariant = { λ t. IsSound t.nodes t.root t.alive t.most t.spent };
+    ghost invariant = { λ t. IsSound t.nodes t.shape.root t.shape.alive t.shape.most t.spent };
 }
 
 impl Tree {
@@ -44,9 +43,11 @@ impl Tree {
     {
         Tree {
             nodes: Arena::new(alloc),
-            root: None,
-            alive: 0,
-            most: 0,
+            shape: Shape {
+                root: None,
+                alive: 0,
+                most: 0,
+            },
             spent: false,
         }
     }
@@ -57,21 +58,21 @@ impl Tree {
         ensures kept { IsKept Body self.now.column }
         ensures short { height self.now.column.tree ≤ 63 }
     {
-        size_of(&self.nodes, self.root)
+        size_of(&self.nodes, self.shape.root)
     }
 
     /// How many items have rows.
     pub fn live(&self) -> u32
         ensures { result ≡ live (items_of self.now.column) }
     {
-        self.alive
+        self.shape.alive
     }
 
     /// The greatest number of items since the whole tree was last balanced.
     pub fn max(&self) -> u32
         ensures { result ≡ self.now.column.most }
     {
-        self.most
+        self.shape.most
     }
 
     /// What is left after want of memory.
@@ -80,9 +81,11 @@ impl Tree {
     {
         Tree {
             nodes: Arena::new(alloc),
-            root: None,
-            alive: 0,
-            most: 0,
+            shape: Shape {
+                root: None,
+                alive: 0,
+                most: 0,
+            },
             spent: true,
         }
     }

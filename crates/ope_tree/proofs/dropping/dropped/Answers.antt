@@ -14,32 +14,32 @@ use Rattle.ope_tree.proofs.dropping.dropped.Goals as goal
 
 pub tidied-requires-clause-short : goal.tidied-requires-clause-short
 tidied-requires-clause-short c =
-    lowered_short (tree_of c.args.nodes.now c.args.root) (tree_of c.lowered.new.nodes c.in_ok-fewer.fewer.link) c.args.rank c.args.most c.requires.sound.kept c.requires.sound.few c.in_ok-fewer.ensures.built.names
+    lowered_short (tree_of c.args.nodes.now c.args.shape.root) (tree_of c.lowered.new.nodes c.in_ok-fewer.fewer.link) c.args.rank c.args.shape.most c.requires.sound.kept c.requires.sound.few c.in_ok-fewer.ensures.built.names
 
 pub tidied-requires-clause-is_rank : goal.tidied-requires-clause-is_rank
 tidied-requires-clause-is_rank c =
-    let t = tree_of c.args.nodes.now c.args.root in
+    let t = tree_of c.args.nodes.now c.args.shape.root in
     omega (arith, c.requires.is_rank, ap (λ (u : Tree (Item Body)). size u) c.in_ok-fewer.ensures.built.names, size-change_tree one_less t c.args.rank)
 
 pub returns-clause-column : goal.returns-clause-column
 returns-clause-column c =
-    let is : IsDropped (is_same_time c.args.mode) (tree_of c.args.nodes.now c.args.root) (tree_of c.lowered.new.nodes c.in_ok-fewer.fewer.link) (tree_of c.tidied.new.nodes c.in_ok-done.done.root) (tree_of c.compacted.new.nodes c.in_ok-root.root) c.args.rank c.args.most c.in_ok-done.done.most =
+    let is : IsDropped (is_same_time c.args.mode) (tree_of c.args.nodes.now c.args.shape.root) (tree_of c.lowered.new.nodes c.in_ok-fewer.fewer.link) (tree_of c.tidied.new.nodes c.in_ok-done.done.shape.root) (tree_of c.compacted.new.nodes c.in_ok-root.root) c.args.rank c.args.shape.most c.in_ok-done.done.shape.most =
     record { less = c.in_ok-fewer.ensures.built.names; tidy = c.in_ok-done.ensures.column; same = c.in_ok-root.ensures.same } in
-    column_dropped (is_same_time c.args.mode) _ _ _ _ c.args.rank c.args.most c.in_ok-done.done.most is
+    column_dropped (is_same_time c.args.mode) _ _ _ _ c.args.rank c.args.shape.most c.in_ok-done.done.shape.most is
 
 pub returns-clause-change : goal.returns-clause-change
 returns-clause-change c =
-    change_dropped (is_same_time c.args.mode) (tree_of c.args.nodes.now c.args.root) (tree_of c.lowered.new.nodes c.in_ok-fewer.fewer.link) c.args.rank c.args.most c.in_ok-done.done.change c.requires.is_rank c.in_ok-fewer.ensures.built.names c.in_ok-done.ensures.change
+    change_dropped (is_same_time c.args.mode) (tree_of c.args.nodes.now c.args.shape.root) (tree_of c.lowered.new.nodes c.in_ok-fewer.fewer.link) c.args.rank c.args.shape.most c.in_ok-done.done.change c.requires.is_rank c.in_ok-fewer.ensures.built.names c.in_ok-done.ensures.change
 
 pub returns-clause-sound : goal.returns-clause-sound
 returns-clause-sound c =
     let mode = is_same_time c.args.mode in
-    let is : IsDropped mode (tree_of c.args.nodes.now c.args.root) (tree_of c.lowered.new.nodes c.in_ok-fewer.fewer.link) (tree_of c.tidied.new.nodes c.in_ok-done.done.root) (tree_of c.compacted.new.nodes c.in_ok-root.root) c.args.rank c.args.most c.in_ok-done.done.most =
+    let is : IsDropped mode (tree_of c.args.nodes.now c.args.shape.root) (tree_of c.lowered.new.nodes c.in_ok-fewer.fewer.link) (tree_of c.tidied.new.nodes c.in_ok-done.done.shape.root) (tree_of c.compacted.new.nodes c.in_ok-root.root) c.args.rank c.args.shape.most c.in_ok-done.done.shape.most =
     record { less = c.in_ok-fewer.ensures.built.names; tidy = c.in_ok-done.ensures.column; same = c.in_ok-root.ensures.same } in
-    let column_is = column_dropped mode _ _ _ _ c.args.rank c.args.most c.in_ok-done.done.most is in
+    let column_is = column_dropped mode _ _ _ _ c.args.rank c.args.shape.most c.in_ok-done.done.shape.most is in
     record {
       is_link = c.in_ok-root.ensures.link;
-      kept = subst (λ (d : Column Body). IsKept Body d) (sym column_is) (IsKept-drop mode c.args.rank (column_of c.args.nodes.now c.args.root c.args.most) c.requires.sound.kept);
+      kept = subst (λ (d : Column Body). IsKept Body d) (sym column_is) (IsKept-drop mode c.args.rank (column_of c.args.nodes.now c.args.shape.root c.args.shape.most) c.requires.sound.kept);
       alive_is = c.in_ok-done.ensures.alive ∙ ap (λ (t : Tree (Item Body)). live (inorder t)) (sym c.in_ok-root.ensures.same);
       gone = λ e. absurd (cc);
       few = c.in_ok-done.ensures.few;

@@ -16,36 +16,36 @@ use Rattle.ope_tree.proofs.dropping.tidied.Goals as goal
 
 pub returns-then-leaves-clause-column : goal.returns-then-leaves-clause-column
 returns-then-leaves-clause-column c =
-    let t = tree_of c.args.nodes.now c.args.root in
+    let t = tree_of c.args.nodes.now c.args.shape.root in
     let m = is_same_time c.args.mode in
     let goes = sym c.leaves.ensures ∙ c.if-leaves.true in
-    IfOk-both (λ done. tree_of c.withdrawn.new.nodes done.root ≡ remove_tree t c.args.rank) (λ (done : Done). done.most ≡ c.args.most) (λ done. column_of c.withdrawn.new.nodes done.root done.most ≡ pruned (taken_out (m && is_dead (slice_get (inorder t) c.args.rank)) t c.args.rank) c.args.most)
-    (λ done tree most. column_withdrawn m t (tree_of c.withdrawn.new.nodes done.root) c.args.rank c.args.most done.most goes tree most)
+    IfOk-both (λ done. tree_of c.withdrawn.new.nodes done.shape.root ≡ remove_tree t c.args.rank) (λ (done : Done). done.shape.most ≡ c.args.shape.most) (λ done. column_of c.withdrawn.new.nodes done.shape.root done.shape.most ≡ pruned (taken_out (m && is_dead (slice_get (inorder t) c.args.rank)) t c.args.rank) c.args.shape.most)
+    (λ done tree most. column_withdrawn m t (tree_of c.withdrawn.new.nodes done.shape.root) c.args.rank c.args.shape.most done.shape.most goes tree most)
     c.withdrawn.result c.withdrawn.ensures.tree c.withdrawn.ensures.most
 
 pub returns-then-leaves-clause-alive : goal.returns-then-leaves-clause-alive
 returns-then-leaves-clause-alive c =
-    let t = tree_of c.args.nodes.now c.args.root in
+    let t = tree_of c.args.nodes.now c.args.shape.root in
     let m = is_same_time c.args.mode in
     let goes = sym c.leaves.ensures ∙ c.if-leaves.true in
-    IfOk-both (λ done. tree_of c.withdrawn.new.nodes done.root ≡ remove_tree t c.args.rank) (λ (done : Done). done.alive ≡ c.args.alive) (λ done. done.alive ≡ live (inorder (tree_of c.withdrawn.new.nodes done.root)))
-    (λ done tree alive. live_withdrawn m t (tree_of c.withdrawn.new.nodes done.root) c.args.rank c.args.most c.args.alive done.alive goes c.requires.alive tree alive)
+    IfOk-both (λ done. tree_of c.withdrawn.new.nodes done.shape.root ≡ remove_tree t c.args.rank) (λ (done : Done). done.shape.alive ≡ c.args.shape.alive) (λ done. done.shape.alive ≡ live (inorder (tree_of c.withdrawn.new.nodes done.shape.root)))
+    (λ done tree alive. live_withdrawn m t (tree_of c.withdrawn.new.nodes done.shape.root) c.args.rank c.args.shape.most c.args.shape.alive done.shape.alive goes c.requires.alive tree alive)
     c.withdrawn.result c.withdrawn.ensures.tree c.withdrawn.ensures.alive
 
 pub returns-then-leaves-clause-change : goal.returns-then-leaves-clause-change
 returns-then-leaves-clause-change c =
-    let t = tree_of c.args.nodes.now c.args.root in
+    let t = tree_of c.args.nodes.now c.args.shape.root in
     let m = is_same_time c.args.mode in
     let goes = sym c.leaves.ensures ∙ c.if-leaves.true in
-    IfOk-both (λ (done : Done). done.change ≡ removal_sum t c.args.rank) (λ (done : Done). done.most ≡ c.args.most) (λ done. IsDropChange m c.args.most c.args.rank t done.change)
-    (λ done change _. change_withdrawn m t c.args.rank c.args.most done.change goes change)
+    IfOk-both (λ (done : Done). done.change ≡ removal_sum t c.args.rank) (λ (done : Done). done.shape.most ≡ c.args.shape.most) (λ done. IsDropChange m c.args.shape.most c.args.rank t done.change)
+    (λ done change _. change_withdrawn m t c.args.rank c.args.shape.most done.change goes change)
     c.withdrawn.result c.withdrawn.ensures.change c.withdrawn.ensures.most
 
 pub returns-clause-column : goal.returns-clause-column
 returns-clause-column c =
-    let t = tree_of c.args.nodes.now c.args.root in
+    let t = tree_of c.args.nodes.now c.args.shape.root in
     let m = is_same_time c.args.mode in
     let stays = sym c.leaves.ensures ∙ c.if-leaves.false in
-    IfOk-both (λ done. column_of c.pruned.new.nodes done.root done.most ≡ pruned t c.args.most) (λ (done : Done). done.most < 2 ^ 32) (λ done. column_of c.pruned.new.nodes done.root done.most ≡ pruned (taken_out (m && is_dead (slice_get (inorder t) c.args.rank)) t c.args.rank) c.args.most)
-    (λ done column _. column ∙ sym (pruned-ordinary m t c.args.rank c.args.most stays))
+    IfOk-both (λ done. column_of c.pruned.new.nodes done.shape.root done.shape.most ≡ pruned t c.args.shape.most) (λ (done : Done). done.shape.most < 2 ^ 32) (λ done. column_of c.pruned.new.nodes done.shape.root done.shape.most ≡ pruned (taken_out (m && is_dead (slice_get (inorder t) c.args.rank)) t c.args.rank) c.args.shape.most)
+    (λ done column _. column ∙ sym (pruned-ordinary m t c.args.rank c.args.shape.most stays))
     c.pruned.result c.pruned.ensures.column c.pruned.ensures.few

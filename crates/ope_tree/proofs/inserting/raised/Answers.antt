@@ -18,7 +18,7 @@ use Rattle.ope_tree.proofs.inserting.raised.Goals as goal
 
 pub unwrap-entry-requires : goal.unwrap-entry-requires
 unwrap-entry-requires c =
-    let t = tree_of c.args.nodes.now c.args.root in
+    let t = tree_of c.args.nodes.now c.args.shape.root in
     let d : Item Body = record { body = record { nonce = 0; masked = 0 }; count = 0 } in
     known_item (inorder t) c.args.rank c.entry_at.result d (omega (arith, length-inorder t, c.requires.is_rank)) c.entry_at.ensures
 
@@ -26,12 +26,12 @@ pub more_rows-requires : goal.more_rows-requires
 unfolding items_of item_of
 more_rows-requires c =
     let known = c.entry_at.ensures ∙ ap (λ (o : Option Entry). option_map item_of o) c.unwrap-entry.ensures in
-    let here = count_there (column_of c.args.nodes.now c.args.root c.args.most) c.args.rank (item_of c.unwrap-entry.result) known in
+    let here = count_there (column_of c.args.nodes.now c.args.shape.root c.args.shape.most) c.args.rank (item_of c.unwrap-entry.result) known in
     omega (arith, here, c.requires.room)
 
 pub overflow_add-result : goal.overflow_add-result
 overflow_add-result c =
-    let t = tree_of c.args.nodes.now c.args.root in
+    let t = tree_of c.args.nodes.now c.args.shape.root in
     omega (arith, c.requires.sound.alive_is, live-le (inorder t), length-inorder t, c.requires.few, c.revived_by.ensures.few)
 
 pub of-requires : goal.of-requires
@@ -41,27 +41,27 @@ pub returns-clause-sound : goal.returns-clause-sound
 unfolding items_of apply
 returns-clause-sound c =
     let old = c.args.nodes.now in
-    let c0 = column_of old c.args.root c.args.most in
-    let t = tree_of old c.args.root in
+    let c0 = column_of old c.args.shape.root c.args.shape.most in
+    let t = tree_of old c.args.shape.root in
     let x = item_of c.unwrap-entry.result in
     let b = c.unwrap-entry.result.body in
     let known = c.entry_at.ensures ∙ ap (λ (o : Option Entry). option_map item_of o) c.unwrap-entry.ensures in
-    let column = column_raised t (tree_of c.replaced.new.nodes c.in_ok-raised.raised) c.args.most c.args.rank b x (item_of c.more_rows.result) known c.more_rows.ensures c.in_ok-raised.ensures.names in
+    let column = column_raised t (tree_of c.replaced.new.nodes c.in_ok-raised.raised) c.args.shape.most c.args.rank b x (item_of c.more_rows.result) known c.more_rows.ensures c.in_ok-raised.ensures.names in
     let more = live_after_raise c0 c.args.rank b x c.revived_by.result known c.revived_by.ensures.live in
-    sound_after old c.replaced.new.nodes c.args.root c.in_ok-raised.raised c.args.alive c.args.most (c.args.alive + c.revived_by.result) c.args.most (Add (Found c.args.rank) b) c.requires.sound c.in_ok-raised.ensures.is_link column
+    sound_after old c.replaced.new.nodes c.args.shape.root c.in_ok-raised.raised c.args.shape.alive c.args.shape.most (c.args.shape.alive + c.revived_by.result) c.args.shape.most (Add (Found c.args.rank) b) c.requires.sound c.in_ok-raised.ensures.is_link column
     (omega (arith, more, c.requires.sound.alive_is)) c.requires.sound.few
 
 pub returns-clause-column : goal.returns-clause-column
 returns-clause-column c = λ body.
     let old = c.args.nodes.now in
-    let t = tree_of old c.args.root in
+    let t = tree_of old c.args.shape.root in
     let x = item_of c.unwrap-entry.result in
     let known = c.entry_at.ensures ∙ ap (λ (o : Option Entry). option_map item_of o) c.unwrap-entry.ensures in
-    column_raised t (tree_of c.replaced.new.nodes c.in_ok-raised.raised) c.args.most c.args.rank body x (item_of c.more_rows.result) known c.more_rows.ensures c.in_ok-raised.ensures.names
+    column_raised t (tree_of c.replaced.new.nodes c.in_ok-raised.raised) c.args.shape.most c.args.rank body x (item_of c.more_rows.result) known c.more_rows.ensures c.in_ok-raised.ensures.names
 
 pub returns-clause-change : goal.returns-clause-change
 returns-clause-change c = λ body.
-    let c0 = column_of c.args.nodes.now c.args.root c.args.most in
+    let c0 = column_of c.args.nodes.now c.args.shape.root c.args.shape.most in
     c.of.ensures
     ∙ same_sum c.new.result.items [] c.new-2.result.items [] c.new-3.result.items [] c.new.ensures.items c.new-2.ensures.items c.new-3.ensures.items
     ∙ sym (found_raises_count false c.args.rank body c0).sum

@@ -21,73 +21,73 @@ use Rattle.ope_tree.proofs.inserting.widened.Goals as goal
 
 pub path_to-path-requires-clause-short : goal.path_to-path-requires-clause-short
 path_to-path-requires-clause-short c =
-    omega (arith, c.root.ensures.len, sound_short c.args.nodes.now c.args.root c.args.alive c.args.most false c.requires.sound)
+    omega (arith, c.root.ensures.len, sound_short c.args.nodes.now c.args.shape.root c.args.shape.alive c.args.shape.most false c.requires.sound)
 
 pub overflow_add-result : goal.overflow_add-result
 overflow_add-result c =
     let old = c.args.nodes.now in
-    let t = tree_of old c.args.root in
+    let t = tree_of old c.args.shape.root in
     let rank = c.args.rank in
     let b = c.args.body in
-    let c0 = column_of old c.args.root c.args.most in
+    let c0 = column_of old c.args.shape.root c.args.shape.most in
     omega (arith, c.requires.sound.alive_is, live-le (inorder t), length-inorder t, c.requires.few)
 
 pub overflow_add-result-2 : goal.overflow_add-result-2
 overflow_add-result-2 c =
     let old = c.args.nodes.now in
-    let t = tree_of old c.args.root in
+    let t = tree_of old c.args.shape.root in
     let rank = c.args.rank in
     let b = c.args.body in
-    let c0 = column_of old c.args.root c.args.most in
+    let c0 = column_of old c.args.shape.root c.args.shape.most in
     omega (arith, c.requires.sound.alive_is, live-le (inorder t), length-inorder t, c.requires.few)
 
 pub returns-then-not-too_deep-clause-column : goal.returns-then-not-too_deep-clause-column
 unfolding item_of new_item
 returns-then-not-too_deep-clause-column c =
     let old = c.args.nodes.now in
-    let t = tree_of old c.args.root in
+    let t = tree_of old c.args.shape.root in
     let rank = c.args.rank in
     let b = c.args.body in
-    let c0 = column_of old c.args.root c.args.most in
+    let c0 = column_of old c.args.shape.root c.args.shape.most in
     let most = c.max-most.result in
     let next : c.size_of.result + 1 ≡ suc (size t) = omega (arith, c.size_of.ensures) in
-    let top : most ≡ max c.args.most (suc (size t)) = c.max-most.ensures ∙ ap (λ (k : ℕ). max c.args.most k) next in
+    let top : most ≡ max c.args.shape.most (suc (size t)) = c.max-most.ensures ∙ ap (λ (k : ℕ). max c.args.shape.most k) next in
     let way_is : way c.path_to-path.result ≡ path t (Gap rank) = c.path_to-path.ensures ∙ ap (λ (w : List Side). w ++ path t (Gap rank)) c.root.ensures.empty in
     let len : c.path_to-path.result.len ≡ length (path t (Gap rank)) = path_len c.path_to-path.result (path t (Gap rank)) way_is in
     let within : c.path_to-path.result.len ≤ limit c.from.result = not_deeper (limit c.from.result) c.path_to-path.result.len c.if-not-too_deep.ensures.1 in
     let shallow : length (path t (Gap rank)) ≤ limit most = omega (arith, within, len, ap limit c.from.ensures) in
-    column_added t (tree_of c.graft.new.nodes c.in_ok-grafted.grafted) c.args.most most rank b top (c.in_ok-grafted.ensures.names ∙ sym (insert-shallow most rank (new_item b) t shallow))
+    column_added t (tree_of c.graft.new.nodes c.in_ok-grafted.grafted) c.args.shape.most most rank b top (c.in_ok-grafted.ensures.names ∙ sym (insert-shallow most rank (new_item b) t shallow))
 
 pub returns-then-not-too_deep-clause-sound : goal.returns-then-not-too_deep-clause-sound
 unfolding item_of new_item apply items_of
 returns-then-not-too_deep-clause-sound c =
     let old = c.args.nodes.now in
-    let t = tree_of old c.args.root in
+    let t = tree_of old c.args.shape.root in
     let rank = c.args.rank in
     let b = c.args.body in
-    let c0 = column_of old c.args.root c.args.most in
+    let c0 = column_of old c.args.shape.root c.args.shape.most in
     let most = c.max-most.result in
     let next : c.size_of.result + 1 ≡ suc (size t) = omega (arith, c.size_of.ensures) in
-    let top : most ≡ max c.args.most (suc (size t)) = c.max-most.ensures ∙ ap (λ (k : ℕ). max c.args.most k) next in
+    let top : most ≡ max c.args.shape.most (suc (size t)) = c.max-most.ensures ∙ ap (λ (k : ℕ). max c.args.shape.most k) next in
     let way_is : way c.path_to-path.result ≡ path t (Gap rank) = c.path_to-path.ensures ∙ ap (λ (w : List Side). w ++ path t (Gap rank)) c.root.ensures.empty in
     let len : c.path_to-path.result.len ≡ length (path t (Gap rank)) = path_len c.path_to-path.result (path t (Gap rank)) way_is in
     let within : c.path_to-path.result.len ≤ limit c.from.result = not_deeper (limit c.from.result) c.path_to-path.result.len c.if-not-too_deep.ensures.1 in
     let shallow : length (path t (Gap rank)) ≤ limit most = omega (arith, within, len, ap limit c.from.ensures) in
-    let column = column_added t (tree_of c.graft.new.nodes c.in_ok-grafted.grafted) c.args.most most rank b top (c.in_ok-grafted.ensures.names ∙ sym (insert-shallow most rank (new_item b) t shallow)) in
+    let column = column_added t (tree_of c.graft.new.nodes c.in_ok-grafted.grafted) c.args.shape.most most rank b top (c.in_ok-grafted.ensures.names ∙ sym (insert-shallow most rank (new_item b) t shallow)) in
     let more = live_added c0 rank b in
-    sound_after old c.graft.new.nodes c.args.root c.in_ok-grafted.grafted c.args.alive c.args.most (c.args.alive + 1) most (Add (Gap rank) b) c.requires.sound c.in_ok-grafted.ensures.is_link column
+    sound_after old c.graft.new.nodes c.args.shape.root c.in_ok-grafted.grafted c.args.shape.alive c.args.shape.most (c.args.shape.alive + 1) most (Add (Gap rank) b) c.requires.sound c.in_ok-grafted.ensures.is_link column
     (omega (arith, more, c.requires.sound.alive_is)) (omega (arith, top, c.requires.sound.few, c.requires.few))
 
 pub returns-then-not-too_deep-clause-change : goal.returns-then-not-too_deep-clause-change
 returns-then-not-too_deep-clause-change c =
     let old = c.args.nodes.now in
-    let t = tree_of old c.args.root in
+    let t = tree_of old c.args.shape.root in
     let rank = c.args.rank in
     let b = c.args.body in
-    let c0 = column_of old c.args.root c.args.most in
+    let c0 = column_of old c.args.shape.root c.args.shape.most in
     let most = c.max-most.result in
     let next : c.size_of.result + 1 ≡ suc (size t) = omega (arith, c.size_of.ensures) in
-    let top : most ≡ max c.args.most (suc (size t)) = c.max-most.ensures ∙ ap (λ (k : ℕ). max c.args.most k) next in
+    let top : most ≡ max c.args.shape.most (suc (size t)) = c.max-most.ensures ∙ ap (λ (k : ℕ). max c.args.shape.most k) next in
     let way_is : way c.path_to-path.result ≡ path t (Gap rank) = c.path_to-path.ensures ∙ ap (λ (w : List Side). w ++ path t (Gap rank)) c.root.ensures.empty in
     let len : c.path_to-path.result.len ≡ length (path t (Gap rank)) = path_len c.path_to-path.result (path t (Gap rank)) way_is in
     let within : c.path_to-path.result.len ≤ limit c.from.result = not_deeper (limit c.from.result) c.path_to-path.result.len c.if-not-too_deep.ensures.1 in
@@ -98,46 +98,46 @@ pub rebalanced-requires-clause-is_rank : goal.rebalanced-requires-clause-is_rank
 unfolding item_of new_item
 rebalanced-requires-clause-is_rank c =
     let old = c.args.nodes.now in
-    let t = tree_of old c.args.root in
+    let t = tree_of old c.args.shape.root in
     let rank = c.args.rank in
     let b = c.args.body in
-    let c0 = column_of old c.args.root c.args.most in
+    let c0 = column_of old c.args.shape.root c.args.shape.most in
     omega (arith, ap (λ (u : Tree (Item Body)). size u) c.in_ok-grafted.ensures.names, size-graft rank (new_item b) t, c.requires.is_rank)
 
 pub rebalanced-requires-clause-short : goal.rebalanced-requires-clause-short
 unfolding item_of new_item
 rebalanced-requires-clause-short c =
     let old = c.args.nodes.now in
-    let t = tree_of old c.args.root in
+    let t = tree_of old c.args.shape.root in
     let rank = c.args.rank in
     let b = c.args.body in
-    let c0 = column_of old c.args.root c.args.most in
-    omega (arith, ap (λ (u : Tree (Item Body)). height u) c.in_ok-grafted.ensures.names, graft-low rank (new_item b) t (sound_low old c.args.root c.args.alive c.args.most false c.requires.sound))
+    let c0 = column_of old c.args.shape.root c.args.shape.most in
+    omega (arith, ap (λ (u : Tree (Item Body)). height u) c.in_ok-grafted.ensures.names, graft-low rank (new_item b) t (sound_low old c.args.shape.root c.args.shape.alive c.args.shape.most false c.requires.sound))
 
 pub rebalanced-requires-clause-few : goal.rebalanced-requires-clause-few
 unfolding item_of new_item
 rebalanced-requires-clause-few c =
     let old = c.args.nodes.now in
-    let t = tree_of old c.args.root in
+    let t = tree_of old c.args.shape.root in
     let rank = c.args.rank in
     let b = c.args.body in
-    let c0 = column_of old c.args.root c.args.most in
+    let c0 = column_of old c.args.shape.root c.args.shape.most in
     let most = c.max-most.result in
     let next : c.size_of.result + 1 ≡ suc (size t) = omega (arith, c.size_of.ensures) in
-    let top : most ≡ max c.args.most (suc (size t)) = c.max-most.ensures ∙ ap (λ (k : ℕ). max c.args.most k) next in
+    let top : most ≡ max c.args.shape.most (suc (size t)) = c.max-most.ensures ∙ ap (λ (k : ℕ). max c.args.shape.most k) next in
     omega (arith, ap (λ (u : Tree (Item Body)). size u) c.in_ok-grafted.ensures.names, size-graft rank (new_item b) t, top, c.from-2.ensures)
 
 pub rebalanced-requires-clause-deep : goal.rebalanced-requires-clause-deep
 unfolding item_of new_item
 rebalanced-requires-clause-deep c =
     let old = c.args.nodes.now in
-    let t = tree_of old c.args.root in
+    let t = tree_of old c.args.shape.root in
     let rank = c.args.rank in
     let b = c.args.body in
-    let c0 = column_of old c.args.root c.args.most in
+    let c0 = column_of old c.args.shape.root c.args.shape.most in
     let most = c.max-most.result in
     let next : c.size_of.result + 1 ≡ suc (size t) = omega (arith, c.size_of.ensures) in
-    let top : most ≡ max c.args.most (suc (size t)) = c.max-most.ensures ∙ ap (λ (k : ℕ). max c.args.most k) next in
+    let top : most ≡ max c.args.shape.most (suc (size t)) = c.max-most.ensures ∙ ap (λ (k : ℕ). max c.args.shape.most k) next in
     let way_is : way c.path_to-path.result ≡ path t (Gap rank) = c.path_to-path.ensures ∙ ap (λ (w : List Side). w ++ path t (Gap rank)) c.root.ensures.empty in
     let len : c.path_to-path.result.len ≡ length (path t (Gap rank)) = path_len c.path_to-path.result (path t (Gap rank)) way_is in
     let g = tree_of c.graft.new.nodes c.in_ok-grafted.grafted in
@@ -150,85 +150,85 @@ pub of-requires : goal.of-requires
 unfolding item_of new_item apply add
 of-requires c =
     let old = c.args.nodes.now in
-    let t = tree_of old c.args.root in
+    let t = tree_of old c.args.shape.root in
     let rank = c.args.rank in
     let b = c.args.body in
-    let c0 = column_of old c.args.root c.args.most in
+    let c0 = column_of old c.args.shape.root c.args.shape.most in
     let most = c.max-most.result in
     let next : c.size_of.result + 1 ≡ suc (size t) = omega (arith, c.size_of.ensures) in
-    let top : most ≡ max c.args.most (suc (size t)) = c.max-most.ensures ∙ ap (λ (k : ℕ). max c.args.most k) next in
+    let top : most ≡ max c.args.shape.most (suc (size t)) = c.max-most.ensures ∙ ap (λ (k : ℕ). max c.args.shape.most k) next in
     let way_is : way c.path_to-path.result ≡ path t (Gap rank) = c.path_to-path.ensures ∙ ap (λ (w : List Side). w ++ path t (Gap rank)) c.root.ensures.empty in
     let len : c.path_to-path.result.len ≡ length (path t (Gap rank)) = path_len c.path_to-path.result (path t (Gap rank)) way_is in
     let g = tree_of c.graft.new.nodes c.in_ok-grafted.grafted in
     let deeper : limit c.from.result < c.path_to-path.result.len = c.if-not-too_deep.ensures.0 refl in
     let long : length (path g (Found rank)) ≡ length (path t (Gap rank)) = ap (λ (u : Tree (Item Body)). length (path u (Found rank))) c.in_ok-grafted.ensures.names ∙ ap length (graft-new rank (new_item b) t c.requires.is_rank) in
     let deep : limit most < length (path g (Found rank)) = omega (arith, deeper, len, long, ap limit c.from.ensures) in
-    let real : limit (max c.args.most (suc (size t))) < length (path g (Found rank)) = omega (arith, deep, ap limit top) in
+    let real : limit (max c.args.shape.most (suc (size t))) < length (path g (Found rank)) = omega (arith, deep, ap limit top) in
     let added : c.push.new.self.items ≡ c.in_ok-rebuilt.rebuilt.added ∷ [] = c.in_ok-push.ensures.items ∙ ap (λ (xs : List ℕ). xs ++ c.in_ok-rebuilt.rebuilt.added ∷ []) c.new-added.ensures.items in
     let sum = same_sum c.in_ok-rebuilt.rebuilt.moved.items c.in_ok-rebuilt.rebuilt.moved.items c.new.result.items [] c.push.new.self.items (c.in_ok-rebuilt.rebuilt.added ∷ []) refl c.new.ensures.items added
     ∙ change_settled c0 g rank c.in_ok-rebuilt.rebuilt.added b c.in_ok-rebuilt.rebuilt.moved.items c.in_ok-grafted.ensures.names c.requires.is_rank real c.in_ok-rebuilt.ensures.codes in
     let s : Sum = record { moved = c.in_ok-rebuilt.rebuilt.moved.items; dropped = c.new.result.items; added = c.push.new.self.items } in
-    normal_after old c.args.root c.args.alive c.args.most (Add (Gap rank) b) s c.requires.sound (omega (arith, c.requires.sound.few, c.requires.few)) sum
+    normal_after old c.args.shape.root c.args.shape.alive c.args.shape.most (Add (Gap rank) b) s c.requires.sound (omega (arith, c.requires.sound.few, c.requires.few)) sum
 
 pub returns-clause-column : goal.returns-clause-column
 unfolding item_of new_item
 returns-clause-column c =
     let old = c.args.nodes.now in
-    let t = tree_of old c.args.root in
+    let t = tree_of old c.args.shape.root in
     let rank = c.args.rank in
     let b = c.args.body in
-    let c0 = column_of old c.args.root c.args.most in
+    let c0 = column_of old c.args.shape.root c.args.shape.most in
     let most = c.max-most.result in
     let next : c.size_of.result + 1 ≡ suc (size t) = omega (arith, c.size_of.ensures) in
-    let top : most ≡ max c.args.most (suc (size t)) = c.max-most.ensures ∙ ap (λ (k : ℕ). max c.args.most k) next in
+    let top : most ≡ max c.args.shape.most (suc (size t)) = c.max-most.ensures ∙ ap (λ (k : ℕ). max c.args.shape.most k) next in
     let way_is : way c.path_to-path.result ≡ path t (Gap rank) = c.path_to-path.ensures ∙ ap (λ (w : List Side). w ++ path t (Gap rank)) c.root.ensures.empty in
     let len : c.path_to-path.result.len ≡ length (path t (Gap rank)) = path_len c.path_to-path.result (path t (Gap rank)) way_is in
     let g = tree_of c.graft.new.nodes c.in_ok-grafted.grafted in
     let deeper : limit c.from.result < c.path_to-path.result.len = c.if-not-too_deep.ensures.0 refl in
     let long : length (path g (Found rank)) ≡ length (path t (Gap rank)) = ap (λ (u : Tree (Item Body)). length (path u (Found rank))) c.in_ok-grafted.ensures.names ∙ ap length (graft-new rank (new_item b) t c.requires.is_rank) in
     let deep : limit most < length (path g (Found rank)) = omega (arith, deeper, len, long, ap limit c.from.ensures) in
-    column_added t (tree_of c.rebalanced.new.nodes c.in_ok-rebuilt.rebuilt.root) c.args.most most rank b top (c.in_ok-rebuilt.ensures.built.names ∙ sym (insert-tall most rank (new_item b) t g c.in_ok-grafted.ensures.names c.requires.is_rank deep))
+    column_added t (tree_of c.rebalanced.new.nodes c.in_ok-rebuilt.rebuilt.root) c.args.shape.most most rank b top (c.in_ok-rebuilt.ensures.built.names ∙ sym (insert-tall most rank (new_item b) t g c.in_ok-grafted.ensures.names c.requires.is_rank deep))
 
 pub returns-clause-sound : goal.returns-clause-sound
 unfolding item_of new_item apply items_of
 returns-clause-sound c =
     let old = c.args.nodes.now in
-    let t = tree_of old c.args.root in
+    let t = tree_of old c.args.shape.root in
     let rank = c.args.rank in
     let b = c.args.body in
-    let c0 = column_of old c.args.root c.args.most in
+    let c0 = column_of old c.args.shape.root c.args.shape.most in
     let most = c.max-most.result in
     let next : c.size_of.result + 1 ≡ suc (size t) = omega (arith, c.size_of.ensures) in
-    let top : most ≡ max c.args.most (suc (size t)) = c.max-most.ensures ∙ ap (λ (k : ℕ). max c.args.most k) next in
+    let top : most ≡ max c.args.shape.most (suc (size t)) = c.max-most.ensures ∙ ap (λ (k : ℕ). max c.args.shape.most k) next in
     let way_is : way c.path_to-path.result ≡ path t (Gap rank) = c.path_to-path.ensures ∙ ap (λ (w : List Side). w ++ path t (Gap rank)) c.root.ensures.empty in
     let len : c.path_to-path.result.len ≡ length (path t (Gap rank)) = path_len c.path_to-path.result (path t (Gap rank)) way_is in
     let g = tree_of c.graft.new.nodes c.in_ok-grafted.grafted in
     let deeper : limit c.from.result < c.path_to-path.result.len = c.if-not-too_deep.ensures.0 refl in
     let long : length (path g (Found rank)) ≡ length (path t (Gap rank)) = ap (λ (u : Tree (Item Body)). length (path u (Found rank))) c.in_ok-grafted.ensures.names ∙ ap length (graft-new rank (new_item b) t c.requires.is_rank) in
     let deep : limit most < length (path g (Found rank)) = omega (arith, deeper, len, long, ap limit c.from.ensures) in
-    let column = column_added t (tree_of c.rebalanced.new.nodes c.in_ok-rebuilt.rebuilt.root) c.args.most most rank b top (c.in_ok-rebuilt.ensures.built.names ∙ sym (insert-tall most rank (new_item b) t g c.in_ok-grafted.ensures.names c.requires.is_rank deep)) in
+    let column = column_added t (tree_of c.rebalanced.new.nodes c.in_ok-rebuilt.rebuilt.root) c.args.shape.most most rank b top (c.in_ok-rebuilt.ensures.built.names ∙ sym (insert-tall most rank (new_item b) t g c.in_ok-grafted.ensures.names c.requires.is_rank deep)) in
     let more = live_added c0 rank b in
-    sound_after old c.rebalanced.new.nodes c.args.root c.in_ok-rebuilt.rebuilt.root c.args.alive c.args.most (c.args.alive + 1) most (Add (Gap rank) b) c.requires.sound c.in_ok-rebuilt.ensures.built.is_link column
+    sound_after old c.rebalanced.new.nodes c.args.shape.root c.in_ok-rebuilt.rebuilt.root c.args.shape.alive c.args.shape.most (c.args.shape.alive + 1) most (Add (Gap rank) b) c.requires.sound c.in_ok-rebuilt.ensures.built.is_link column
     (omega (arith, more, c.requires.sound.alive_is)) (omega (arith, top, c.requires.sound.few, c.requires.few))
 
 pub returns-clause-change : goal.returns-clause-change
 unfolding item_of new_item
 returns-clause-change c =
     let old = c.args.nodes.now in
-    let t = tree_of old c.args.root in
+    let t = tree_of old c.args.shape.root in
     let rank = c.args.rank in
     let b = c.args.body in
-    let c0 = column_of old c.args.root c.args.most in
+    let c0 = column_of old c.args.shape.root c.args.shape.most in
     let most = c.max-most.result in
     let next : c.size_of.result + 1 ≡ suc (size t) = omega (arith, c.size_of.ensures) in
-    let top : most ≡ max c.args.most (suc (size t)) = c.max-most.ensures ∙ ap (λ (k : ℕ). max c.args.most k) next in
+    let top : most ≡ max c.args.shape.most (suc (size t)) = c.max-most.ensures ∙ ap (λ (k : ℕ). max c.args.shape.most k) next in
     let way_is : way c.path_to-path.result ≡ path t (Gap rank) = c.path_to-path.ensures ∙ ap (λ (w : List Side). w ++ path t (Gap rank)) c.root.ensures.empty in
     let len : c.path_to-path.result.len ≡ length (path t (Gap rank)) = path_len c.path_to-path.result (path t (Gap rank)) way_is in
     let g = tree_of c.graft.new.nodes c.in_ok-grafted.grafted in
     let deeper : limit c.from.result < c.path_to-path.result.len = c.if-not-too_deep.ensures.0 refl in
     let long : length (path g (Found rank)) ≡ length (path t (Gap rank)) = ap (λ (u : Tree (Item Body)). length (path u (Found rank))) c.in_ok-grafted.ensures.names ∙ ap length (graft-new rank (new_item b) t c.requires.is_rank) in
     let deep : limit most < length (path g (Found rank)) = omega (arith, deeper, len, long, ap limit c.from.ensures) in
-    let real : limit (max c.args.most (suc (size t))) < length (path g (Found rank)) = omega (arith, deep, ap limit top) in
+    let real : limit (max c.args.shape.most (suc (size t))) < length (path g (Found rank)) = omega (arith, deep, ap limit top) in
     let added : c.push.new.self.items ≡ c.in_ok-rebuilt.rebuilt.added ∷ [] = c.in_ok-push.ensures.items ∙ ap (λ (xs : List ℕ). xs ++ c.in_ok-rebuilt.rebuilt.added ∷ []) c.new-added.ensures.items in
     let sum = same_sum c.in_ok-rebuilt.rebuilt.moved.items c.in_ok-rebuilt.rebuilt.moved.items c.new.result.items [] c.push.new.self.items (c.in_ok-rebuilt.rebuilt.added ∷ []) refl c.new.ensures.items added
     ∙ change_settled c0 g rank c.in_ok-rebuilt.rebuilt.added b c.in_ok-rebuilt.rebuilt.moved.items c.in_ok-grafted.ensures.names c.requires.is_rank real c.in_ok-rebuilt.ensures.codes in

@@ -8,21 +8,21 @@ use Rattle.ope_tree.proofs.sweeping.swept.Goals as goal
 
 pub all_codes-requires-2-clause-short : goal.all_codes-requires-2-clause-short
 all_codes-requires-2-clause-short c =
-    let t = tree_of c.args.nodes.now c.args.root in
+    let t = tree_of c.args.nodes.now c.args.shape.root in
     let entries = collected c.new-entries.result.items c.collect.new.entries.items t c.new-entries.ensures.items c.in_ok-collect.ensures in
     let tree = whole_is t (tree_of c.balance.new.nodes c.in_ok-root.root) c.collect.new.entries.items c.deref-5.result.now c.in_ok-kept.kept.items c.deref-6.result.now entries c.deref-5.ensures.value c.in_ok-kept.ensures c.deref-6.ensures.value c.in_ok-root.ensures.names in
     let P : Tree (Item Body) → Type 0 = λ u. height u ≤ 63 in
-    subst P (sym tree) (whole_short t c.args.alive c.requires.alive (omega arith))
+    subst P (sym tree) (whole_short t c.args.shape.alive c.requires.alive (omega arith))
 
 pub returns-clause-tree : goal.returns-clause-tree
 returns-clause-tree c =
-    let t = tree_of c.args.nodes.now c.args.root in
+    let t = tree_of c.args.nodes.now c.args.shape.root in
     let entries = collected c.new-entries.result.items c.collect.new.entries.items t c.new-entries.ensures.items c.in_ok-collect.ensures in
     whole_is t (tree_of c.balance.new.nodes c.in_ok-root.root) c.collect.new.entries.items c.deref-5.result.now c.in_ok-kept.kept.items c.deref-6.result.now entries c.deref-5.ensures.value c.in_ok-kept.ensures c.deref-6.ensures.value c.in_ok-root.ensures.names
 
 pub differing-requires : goal.differing-requires
 differing-requires c =
-    let t = tree_of c.args.nodes.now c.args.root in
+    let t = tree_of c.args.nodes.now c.args.shape.root in
     let u = tree_of c.balance.new.nodes c.in_ok-root.root in
     let entries = collected c.new-entries.result.items c.collect.new.entries.items t c.new-entries.ensures.items c.in_ok-collect.ensures in
     let one : IsSeen t c.collect.new.entries.items c.deref.result.now c.in_ok-before.before.items c.deref-2.result.now = record { entries_are = entries; codes_are = c.in_ok-before.ensures; same_entries = c.deref.ensures.value; same_codes = c.deref-2.ensures.value } in
@@ -33,7 +33,7 @@ differing-requires c =
 
 pub of-change-requires : goal.of-change-requires
 of-change-requires c =
-    let t = tree_of c.args.nodes.now c.args.root in
+    let t = tree_of c.args.nodes.now c.args.shape.root in
     let u = tree_of c.balance.new.nodes c.in_ok-root.root in
     let entries = collected c.new-entries.result.items c.collect.new.entries.items t c.new-entries.ensures.items c.in_ok-collect.ensures in
     let one : IsSeen t c.collect.new.entries.items c.deref.result.now c.in_ok-before.before.items c.deref-2.result.now = record { entries_are = entries; codes_are = c.in_ok-before.ensures; same_entries = c.deref.ensures.value; same_codes = c.deref-2.ensures.value } in
@@ -46,11 +46,11 @@ of-change-requires c =
       pairs = c.in_ok-moved.ensures;
       none = c.new.ensures.items;
     } in
-    change_normal t u c.args.alive c.deref-7.result.now c.deref-8.result.now c.in_ok-dropped.dropped.items c.new.result.items c.in_ok-moved.moved.items c.requires.short c.requires.alive (omega arith) made
+    change_normal t u c.args.shape.alive c.deref-7.result.now c.deref-8.result.now c.in_ok-dropped.dropped.items c.new.result.items c.in_ok-moved.moved.items c.requires.short c.requires.alive (omega arith) made
 
 pub returns-clause-change : goal.returns-clause-change
 returns-clause-change c =
-    let t = tree_of c.args.nodes.now c.args.root in
+    let t = tree_of c.args.nodes.now c.args.shape.root in
     let u = tree_of c.balance.new.nodes c.in_ok-root.root in
     let entries = collected c.new-entries.result.items c.collect.new.entries.items t c.new-entries.ensures.items c.in_ok-collect.ensures in
     let one : IsSeen t c.collect.new.entries.items c.deref.result.now c.in_ok-before.before.items c.deref-2.result.now = record { entries_are = entries; codes_are = c.in_ok-before.ensures; same_entries = c.deref.ensures.value; same_codes = c.deref-2.ensures.value } in

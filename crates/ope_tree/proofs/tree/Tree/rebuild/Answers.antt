@@ -10,33 +10,33 @@ use Rattle.ope_tree.proofs.Spent.{spent_is_empty}
 use Rattle.ope_tree.proofs.tree.Tree.rebuild.Goals as goal
 
 pub returns-then-self-clause-spent : goal.returns-then-self-clause-spent
-returns-then-self-clause-spent c = sym c.self.view_is ∙ spent_is_empty c.self.inside.nodes c.self.inside.root c.self.inside.alive c.self.inside.most c.self.inside.spent c.self.invariant c.if-self.true
+returns-then-self-clause-spent c = sym c.self.view_is ∙ spent_is_empty c.self.inside.nodes c.self.inside.shape.root c.self.inside.shape.alive c.self.inside.shape.most c.self.inside.spent c.self.invariant c.if-self.true
 
 pub returns-then-self-clause-short : goal.returns-then-self-clause-short
 returns-then-self-clause-short c =
-    let short = sound_short c.self.inside.nodes c.self.inside.root c.self.inside.alive c.self.inside.most c.self.inside.spent c.self.invariant in
+    let short = sound_short c.self.inside.nodes c.self.inside.shape.root c.self.inside.shape.alive c.self.inside.shape.most c.self.inside.spent c.self.invariant in
     subst (λ (t : Seen). height t.column.tree ≤ 63) c.self.view_is short
 
 pub returns-in-Ok-clause-short : goal.returns-in-Ok-clause-short
-returns-in-Ok-clause-short c = sound_short c.laid.new.nodes c.in-Ok.done.root c.in-Ok.done.alive c.in-Ok.done.most false c.in-Ok.ensures.sound
+returns-in-Ok-clause-short c = sound_short c.laid.new.nodes c.in-Ok.done.shape.root c.in-Ok.done.shape.alive c.in-Ok.done.shape.most false c.in-Ok.ensures.sound
 
 pub returns-in-Err-clause-short : goal.returns-in-Err-clause-short
-returns-in-Err-clause-short c = sound_short c.gone-in-Err.inside.nodes c.gone-in-Err.inside.root c.gone-in-Err.inside.alive c.gone-in-Err.inside.most c.gone-in-Err.inside.spent c.gone-in-Err.invariant
+returns-in-Err-clause-short c = sound_short c.gone-in-Err.inside.nodes c.gone-in-Err.inside.shape.root c.gone-in-Err.inside.shape.alive c.gone-in-Err.inside.shape.most c.gone-in-Err.inside.spent c.gone-in-Err.invariant
 
 pub returns-in-Ok-clause-change : goal.returns-in-Ok-clause-change
 returns-in-Ok-clause-change c = λ same_time.
     let t = c.self.inside in
     c.in-Ok.ensures.change
-    ∙ lay_sum same_time (column_of t.nodes t.root t.most)
+    ∙ lay_sum same_time (column_of t.nodes t.shape.root t.shape.most)
     ∙ ap (λ (seen : Seen). sum_of same_time (Lay ∷ []) seen.column) c.self.view_is
 
 pub returns-in-Ok-clause-suits : goal.returns-in-Ok-clause-suits
 returns-in-Ok-clause-suits c = λ same_time suits.
     let t = c.self.inside in
-    suits_laid same_time (column_of t.nodes t.root t.most) (column_of c.laid.new.nodes c.in-Ok.done.root c.in-Ok.done.most) c.in-Ok.ensures.column
+    suits_laid same_time (column_of t.nodes t.shape.root t.shape.most) (column_of c.laid.new.nodes c.in-Ok.done.shape.root c.in-Ok.done.shape.most) c.in-Ok.ensures.column
     (subst (λ (seen : Seen). SuitsMode same_time seen.column) (sym c.self.view_is) suits)
 
 pub returns-in-Err-clause-suits : goal.returns-in-Err-clause-suits
 returns-in-Err-clause-suits c = λ same_time _.
     let gone = c.gone-in-Err.inside in
-    suits_empty same_time true (seen_of gone.nodes gone.root gone.most gone.spent) (c.gone-in-Err.view_is ∙ c.gone.ensures)
+    suits_empty same_time true (seen_of gone.nodes gone.shape.root gone.shape.most gone.spent) (c.gone-in-Err.view_is ∙ c.gone.ensures)

@@ -172,16 +172,9 @@ impl Tree {
         ensures suits { SuitsMode (is_same_time mode) self.old.column → SuitsMode (is_same_time mode) self.new.column }
         ensures short { height self.new.column.tree ≤ 63 }
     {
-        let done = dropped(&mut self.nodes, self.shape, rank, mode);
-        match done {
-            Ok(done) => {
-                self.shape = done.shape;
-                Ok(done.change)
-            }
-            Err(_) => {
-                *self = Tree::gone(self.nodes.allocator());
-                Err(OutOfMemory)
-            }
-        }
+        let (mut nodes, shape) = self.take()?;
+        let done = dropped(&mut nodes, shape, rank, mode)?;
+        *self = Tree::of(nodes, done.shape);
+        Ok(done.change)
     }
 }

@@ -177,19 +177,9 @@ impl Tree {
         ensures suits { (same_time : Bool) → SuitsMode same_time self.old.column → SuitsMode same_time self.new.column }
         ensures short { height self.new.column.tree ≤ 63 }
     {
-        if self.spent {
-            return Err(OutOfMemory);
-        }
-        let done = inserted(&mut self.nodes, self.shape, place, body);
-        match done {
-            Ok(done) => {
-                self.shape = done.shape;
-                Ok(done.change)
-            }
-            Err(_) => {
-                *self = Tree::gone(self.nodes.allocator());
-                Err(OutOfMemory)
-            }
-        }
+        let (mut nodes, shape) = self.take()?;
+        let done = inserted(&mut nodes, shape, place, body)?;
+        *self = Tree::of(nodes, done.shape);
+        Ok(done.change)
     }
 }

@@ -66,18 +66,9 @@ impl Tree {
         ensures suits { (same_time : Bool) → SuitsMode same_time self.old.column → SuitsMode same_time self.new.column }
         ensures short { height self.new.column.tree ≤ 63 }
     {
-        if self.spent {
-            return Err(OutOfMemory);
-        }
-        match laid(&mut self.nodes, self.shape) {
-            Ok(done) => {
-                self.shape = done.shape;
-                Ok(done.change)
-            }
-            Err(_) => {
-                *self = Tree::gone(self.nodes.allocator());
-                Err(OutOfMemory)
-            }
-        }
+        let (mut nodes, shape) = self.take()?;
+        let done = laid(&mut nodes, shape)?;
+        *self = Tree::of(nodes, done.shape);
+        Ok(done.change)
     }
 }

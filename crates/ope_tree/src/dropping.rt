@@ -19,13 +19,13 @@ use crate::Tree;
 use crate::arena::Arena;
 use crate::building::{join, size_of};
 use crate::change::Change;
-use crate::copying::compacted;
+use crate::copying::compact;
 use crate::done::Done;
 use crate::nodes::Entry;
 use crate::reading::entry_at;
-use crate::removing::withdrawn;
+use crate::removing::take_out;
 use crate::shape::Shape;
-use crate::sweeping::pruned;
+use crate::sweeping::sweep_if_sparse;
 use mope_base::{Mode, OutOfMemory};
 use scapegoat::needs_whole;
 
@@ -47,14 +47,14 @@ fn fewer_rows(entry: Entry) -> Entry
 }
 
 /// How many items, 0 or 1, have no row any more where this one has one fewer.
-fn emptied_by(entry: Entry) -> u32
+fn newly_dead(entry: Entry) -> u32
     ensures { live (item_of entry ∷ []) ≡ live (one_less (item_of entry) ∷ []) + result }
 {
     if entry.count == 1 { 1 } else { 0 }
 }
 
 /// The tree of a link with one row fewer at the item of a rank.
-fn lowered(nodes: &mut Arena, link: Option<u32>, rank: u32) -> Result<Fewer, OutOfMemory>
+fn lower_count(nodes: &mut Arena, link: Option<u32>, rank: u32) -> Result<Fewer, OutOfMemory>
     requires { IsLink nodes.old link }
     ensures built { IfOk result (λ fewer. IsBuilt nodes.old nodes.new fewer.link (change_tree one_less (tree_of nodes.old link) rank)) }
     ensures live { IfOk result (λ fewer. live (inorder (tree_of nodes.old link)) ≡ live (inorder (change_tree one_less (tree_of nodes.old link) rank)) + fewer.emptied) }
@@ -65,7 +65,7 @@ fn lowered(nodes: &mut Arena, link: Option<u32>, rank: u32) -> Result<Fewer, Out
     let node = nodes.get(at);
     let before = size_of(nodes, node.left);
     if rank < before {
-        let left = lowered(nodes, node.left, rank)?;
+        let left = lower_count(nodes, node.left, rank)?;
         let link = join(nodes, left.link, node.entry, node.right)?;
         return Ok(Fewer {
             link,
@@ -73,7 +73,7 @@ fn lowered(nodes: &mut Arena, link: Option<u32>, rank: u32) -> Result<Fewer, Out
         });
     }
     if before < rank {
-        let right = lowered(nodes, node.right, rank - before - 1)?;
+        let right = lower_count(nodes, node.right, rank - before - 1)?;
         let link = join(nodes, node.left, node.entry, right.link)?;
         return Ok(Fewer {
             link,
@@ -83,7 +83,7 @@ fn lowered(nodes: &mut Arena, link: Option<u32>, rank: u32) -> Result<Fewer, Out
     let link = join(nodes, node.left, fewer_rows(node.entry), node.right)?;
     Ok(Fewer {
         link,
-        emptied: emptied_by(node.entry),
+        emptied: newly_dead(node.entry),
     })
 }
 
@@ -99,7 +99,7 @@ fn has_no_rows(nodes: &Arena, link: Option<u32>, rank: u32) -> bool
 }
 
 /// Whether the item of a rank, which has just lost a row, goes and the tree isn't balanced whole.
-fn leaves(nodes: &Arena, shape: Shape, rank: u32, mode: Mode) -> bool
+fn goes_alone(nodes: &Arena, shape: Shape, rank: u32, mode: Mode) -> bool
     requires link { IsLink nodes.now shape.root }
     requires alive { shape.alive ≡ live (inorder (tree_of nodes.now shape.root)) }
     ensures { result ≡ goes_alone (is_same_time mode) shape.most (inorder (tree_of nodes.now shape.root)) rank }
@@ -115,7 +115,12 @@ fn leaves(nodes: &Arena, shape: Shape, rank: u32, mode: Mode) -> bool
 
 /// The tree of a link, whose item of a rank has just lost a row: that item goes where its mode says so, and where too few
 /// items have rows, the tree becomes the balanced tree of those.
-fn tidied(nodes: &mut Arena, shape: Shape, rank: u32, mode: Mode) -> Result<Done, OutOfMemory>
+fn take_out_or_sweep(
+    nodes: &mut Arena,
+    shape: Shape,
+    rank: u32,
+    mode: Mode,
+) -> Result<Done, OutOfMemory>
     requires link { IsLink nodes.old shape.root }
     requires short { height (tree_of nodes.old shape.root) ≤ 63 }
     requires is_rank { rank < size (tree_of nodes.old shape.root) }
@@ -126,28 +131,33 @@ fn tidied(nodes: &mut Arena, shape: Shape, rank: u32, mode: Mode) -> Result<Done
     ensures few { IfOk result (λ done. done.shape.most < 2 ^ 32) }
     ensures change { IfOk result (λ done. IsDropChange (is_same_time mode) shape.most rank (tree_of nodes.old shape.root) done.change) }
 {
-    if leaves(nodes, shape, rank, mode) {
-        return withdrawn(nodes, shape, rank);
+    if goes_alone(nodes, shape, rank, mode) {
+        return take_out(nodes, shape, rank);
     }
-    pruned(nodes, shape)
+    sweep_if_sparse(nodes, shape)
 }
 
 /// One row fewer at the item of a rank of the tree of a link.
-fn dropped(nodes: &mut Arena, shape: Shape, rank: u32, mode: Mode) -> Result<Done, OutOfMemory>
+fn drop_and_compact(
+    nodes: &mut Arena,
+    shape: Shape,
+    rank: u32,
+    mode: Mode,
+) -> Result<Done, OutOfMemory>
     requires sound { IsShape nodes.old shape }
     requires is_rank { rank < size (tree_of nodes.old shape.root) }
     ensures sound { IfOk result (λ done. IsShape nodes.new done.shape) }
     ensures column { IfOk result (λ done. column_in nodes.new done.shape ≡ drop_one (is_same_time mode) rank (column_in nodes.old shape)) }
     ensures change { IfOk result (λ done. done.change ≡ sum_of (is_same_time mode) (Drop rank ∷ []) (column_in nodes.old shape)) }
 {
-    let fewer = lowered(nodes, shape.root, rank)?;
+    let fewer = lower_count(nodes, shape.root, rank)?;
     let lower = Shape {
         root: fewer.link,
         alive: shape.alive - fewer.emptied,
         most: shape.most,
     };
-    let done = tidied(nodes, lower, rank, mode)?;
-    let root = compacted(nodes, done.shape.root)?;
+    let done = take_out_or_sweep(nodes, lower, rank, mode)?;
+    let root = compact(nodes, done.shape.root)?;
     Ok(Done {
         shape: Shape { root, ..done.shape },
         change: done.change,
@@ -173,7 +183,7 @@ impl Tree {
         ensures short { height self.new.column.tree ≤ 63 }
     {
         let (mut nodes, shape) = self.take()?;
-        let done = dropped(&mut nodes, shape, rank, mode)?;
+        let done = drop_and_compact(&mut nodes, shape, rank, mode)?;
         *self = Tree::of(nodes, done.shape);
         Ok(done.change)
     }

@@ -16,12 +16,12 @@ use crate::Tree;
 use crate::arena::Arena;
 use crate::building::size_of;
 use crate::change::Change;
-use crate::copying::compacted;
+use crate::copying::compact;
 use crate::done::Done;
-use crate::grafting::{graft, replaced};
+use crate::grafting::{graft, replace_item};
 use crate::nodes::Entry;
 use crate::reading::entry_at;
-use crate::settling::rebalanced;
+use crate::settling::balance_tall_part;
 use crate::shape::Shape;
 use crate::ways::path_to;
 use mope_base::{Body, OutOfMemory};
@@ -40,7 +40,7 @@ fn added_alone(alloc: Global, code: u64) -> Result<Change, OutOfMemory>
 }
 
 /// How many items, 0 or 1, have rows where this one has one more and had none before.
-fn revived_by(entry: Entry) -> u32
+fn newly_live(entry: Entry) -> u32
     ensures live { live (one_more (item_of entry) ∷ []) ≡ live (item_of entry ∷ []) + result }
     ensures few { result ≤ 1 }
 {
@@ -59,7 +59,7 @@ fn more_rows(entry: Entry) -> Entry
 }
 
 /// A tree with one row more at the item of a rank.
-fn raised(nodes: &mut Arena, shape: Shape, rank: u32) -> Result<Done, OutOfMemory>
+fn raise_count(nodes: &mut Arena, shape: Shape, rank: u32) -> Result<Done, OutOfMemory>
     requires sound { IsShape nodes.old shape }
     requires is_rank { rank < size (tree_of nodes.old shape.root) }
     requires few { size (tree_of nodes.old shape.root) < 2 ^ 31 }
@@ -70,11 +70,11 @@ fn raised(nodes: &mut Arena, shape: Shape, rank: u32) -> Result<Done, OutOfMemor
 {
     let alloc = nodes.allocator();
     let entry = entry_at(nodes, shape.root, rank).unwrap();
-    let raised = replaced(nodes, shape.root, rank, more_rows(entry))?;
+    let raised = replace_item(nodes, shape.root, rank, more_rows(entry))?;
     Ok(Done {
         shape: Shape {
             root: raised,
-            alive: shape.alive + revived_by(entry),
+            alive: shape.alive + newly_live(entry),
             most: shape.most,
         },
         change: Change::of(Vec::new(alloc), Vec::new(alloc), Vec::new(alloc)),
@@ -82,7 +82,12 @@ fn raised(nodes: &mut Arena, shape: Shape, rank: u32) -> Result<Done, OutOfMemor
 }
 
 /// A tree with a new item, which has one row, at the gap of a rank.
-fn widened(nodes: &mut Arena, shape: Shape, rank: u32, body: Body) -> Result<Done, OutOfMemory>
+fn insert_at_gap(
+    nodes: &mut Arena,
+    shape: Shape,
+    rank: u32,
+    body: Body,
+) -> Result<Done, OutOfMemory>
     requires sound { IsShape nodes.old shape }
     requires is_rank { rank ≤ size (tree_of nodes.old shape.root) }
     requires few { size (tree_of nodes.old shape.root) < 2 ^ 31 }
@@ -105,7 +110,7 @@ fn widened(nodes: &mut Arena, shape: Shape, rank: u32, body: Body) -> Result<Don
             change,
         });
     }
-    let rebuilt = rebalanced(nodes, grafted, rank, u64::from(most))?;
+    let rebuilt = balance_tall_part(nodes, grafted, rank, u64::from(most))?;
     let mut added = Vec::new(alloc);
     added.push(rebuilt.added)?;
     Ok(Done {
@@ -119,7 +124,12 @@ fn widened(nodes: &mut Arena, shape: Shape, rank: u32, body: Body) -> Result<Don
 }
 
 /// A tree with one row more at a place, over the nodes that there are.
-fn placed(nodes: &mut Arena, shape: Shape, place: Place, body: Body) -> Result<Done, OutOfMemory>
+fn insert_at_place(
+    nodes: &mut Arena,
+    shape: Shape,
+    place: Place,
+    body: Body,
+) -> Result<Done, OutOfMemory>
     requires sound { IsShape nodes.old shape }
     requires is_place { IsPlaceOf (size (tree_of nodes.old shape.root)) place }
     requires few { size (tree_of nodes.old shape.root) < 2 ^ 31 }
@@ -130,18 +140,23 @@ fn placed(nodes: &mut Arena, shape: Shape, place: Place, body: Body) -> Result<D
 {
     match place {
         Place::Found(rank) => {
-            let done = raised(nodes, shape, rank)?;
+            let done = raise_count(nodes, shape, rank)?;
             Ok(done)
         }
         Place::Gap(rank) => {
-            let done = widened(nodes, shape, rank, body)?;
+            let done = insert_at_gap(nodes, shape, rank, body)?;
             Ok(done)
         }
     }
 }
 
 /// A tree with one row more at a place, over no more nodes than the arena should have.
-fn inserted(nodes: &mut Arena, shape: Shape, place: Place, body: Body) -> Result<Done, OutOfMemory>
+fn insert_and_compact(
+    nodes: &mut Arena,
+    shape: Shape,
+    place: Place,
+    body: Body,
+) -> Result<Done, OutOfMemory>
     requires sound { IsShape nodes.old shape }
     requires is_place { IsPlaceOf (size (tree_of nodes.old shape.root)) place }
     requires few { size (tree_of nodes.old shape.root) < 2 ^ 31 }
@@ -150,8 +165,8 @@ fn inserted(nodes: &mut Arena, shape: Shape, place: Place, body: Body) -> Result
     ensures column { IfOk result (λ done. column_in nodes.new done.shape ≡ add place body (column_in nodes.old shape)) }
     ensures change { IfOk result (λ done. done.change ≡ sum_of false (Add place body ∷ []) (column_in nodes.old shape)) }
 {
-    let done = placed(nodes, shape, place, body)?;
-    let root = compacted(nodes, done.shape.root)?;
+    let done = insert_at_place(nodes, shape, place, body)?;
+    let root = compact(nodes, done.shape.root)?;
     Ok(Done {
         shape: Shape { root, ..done.shape },
         change: done.change,
@@ -178,7 +193,7 @@ impl Tree {
         ensures short { height self.new.column.tree ≤ 63 }
     {
         let (mut nodes, shape) = self.take()?;
-        let done = inserted(&mut nodes, shape, place, body)?;
+        let done = insert_and_compact(&mut nodes, shape, place, body)?;
         *self = Tree::of(nodes, done.shape);
         Ok(done.change)
     }

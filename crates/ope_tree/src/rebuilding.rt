@@ -19,7 +19,7 @@ use crate::shape::Shape;
 use mope_base::OutOfMemory;
 
 /// The balanced tree of these items, in place of all nodes there were.
-pub fn renewed(nodes: &mut Arena, entries: &[Entry]) -> Result<Option<u32>, OutOfMemory>
+pub fn balance_anew(nodes: &mut Arena, entries: &[Entry]) -> Result<Option<u32>, OutOfMemory>
     ensures link { IfOk result (λ link. IsLink nodes.new link) }
     ensures tree { IfOk result (λ link. tree_of nodes.new link ≡ balanced (items_of_entries entries.now)) }
 {
@@ -30,7 +30,7 @@ pub fn renewed(nodes: &mut Arena, entries: &[Entry]) -> Result<Option<u32>, OutO
 }
 
 /// A tree becomes the balanced tree of all its items.
-fn laid(nodes: &mut Arena, shape: Shape) -> Result<Done, OutOfMemory>
+fn balance_all(nodes: &mut Arena, shape: Shape) -> Result<Done, OutOfMemory>
     requires { IsShape nodes.old shape }
     ensures sound { IfOk result (λ done. IsShape nodes.new done.shape) }
     ensures column { IfOk result (λ done. column_in nodes.new done.shape ≡ lay (column_in nodes.old shape)) }
@@ -40,7 +40,7 @@ fn laid(nodes: &mut Arena, shape: Shape) -> Result<Done, OutOfMemory>
     let before = all_codes(nodes, shape.root)?;
     let mut entries = Vec::new(alloc);
     collect(nodes, shape.root, &mut entries)?;
-    let root = renewed(nodes, &entries)?;
+    let root = balance_anew(nodes, &entries)?;
     let after = all_codes(nodes, root)?;
     let moved = differing(alloc, &before, &after)?;
     Ok(Done {
@@ -67,7 +67,7 @@ impl Tree {
         ensures short { height self.new.column.tree ≤ 63 }
     {
         let (mut nodes, shape) = self.take()?;
-        let done = laid(&mut nodes, shape)?;
+        let done = balance_all(&mut nodes, shape)?;
         *self = Tree::of(nodes, done.shape);
         Ok(done.change)
     }

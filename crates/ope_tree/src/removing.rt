@@ -31,7 +31,7 @@ fn first_or(nodes: &Arena, link: Option<u32>, otherwise: Entry) -> Entry
 }
 
 /// An item between two trees without the first item of all of these. That one's right tree moves up.
-fn without_first(
+fn remove_first(
     nodes: &mut Arena,
     left: Option<u32>,
     entry: Entry,
@@ -45,13 +45,13 @@ fn without_first(
         return Ok(right);
     };
     let node = nodes.get(at);
-    let lower = without_first(nodes, node.left, node.entry, node.right)?;
+    let lower = remove_first(nodes, node.left, node.entry, node.right)?;
     let rest = join(nodes, lower, entry, right)?;
     Ok(rest)
 }
 
 /// The trees on the two sides of an item that goes, as one tree: the only one, or both under the first item of the right one.
-fn joined(
+fn join_sides(
     nodes: &mut Arena,
     left: Option<u32>,
     right: Option<u32>,
@@ -68,13 +68,13 @@ fn joined(
     };
     let node = nodes.get(at);
     let first = first_or(nodes, node.left, node.entry);
-    let rest = without_first(nodes, node.left, node.entry, node.right)?;
+    let rest = remove_first(nodes, node.left, node.entry, node.right)?;
     let link = join(nodes, left, first, rest)?;
     Ok(link)
 }
 
 /// The tree of a link without the item of a rank.
-fn removed(nodes: &mut Arena, link: Option<u32>, rank: u32) -> Result<Option<u32>, OutOfMemory>
+fn remove_item(nodes: &mut Arena, link: Option<u32>, rank: u32) -> Result<Option<u32>, OutOfMemory>
     requires { IsLink nodes.old link }
     ensures { IfOk result (λ fewer. IsBuilt nodes.old nodes.new fewer (remove_tree (tree_of nodes.old link) rank)) }
 {
@@ -84,22 +84,22 @@ fn removed(nodes: &mut Arena, link: Option<u32>, rank: u32) -> Result<Option<u32
     let node = nodes.get(at);
     let before = size_of(nodes, node.left);
     if rank < before {
-        let left = removed(nodes, node.left, rank)?;
+        let left = remove_item(nodes, node.left, rank)?;
         let fewer = join(nodes, left, node.entry, node.right)?;
         return Ok(fewer);
     }
     if before < rank {
-        let right = removed(nodes, node.right, rank - before - 1)?;
+        let right = remove_item(nodes, node.right, rank - before - 1)?;
         let fewer = join(nodes, node.left, node.entry, right)?;
         return Ok(fewer);
     }
-    let fewer = joined(nodes, node.left, node.right)?;
+    let fewer = join_sides(nodes, node.left, node.right)?;
     Ok(fewer)
 }
 
 /// A tree without the item of a rank, which has no rows. Only the codes of the
 /// part that moves up are computed.
-pub fn withdrawn(nodes: &mut Arena, shape: Shape, rank: u32) -> Result<Done, OutOfMemory>
+pub fn take_out(nodes: &mut Arena, shape: Shape, rank: u32) -> Result<Done, OutOfMemory>
     requires link { IsLink nodes.old shape.root }
     requires short { height (tree_of nodes.old shape.root) ≤ 63 }
     requires is_rank { rank < size (tree_of nodes.old shape.root) }
@@ -114,7 +114,7 @@ pub fn withdrawn(nodes: &mut Arena, shape: Shape, rank: u32) -> Result<Done, Out
     let mut dropped = Vec::new(alloc);
     let path = path_to(nodes, shape.root, Place::Found(rank), root_path());
     dropped.push(code(path))?;
-    let root = removed(nodes, shape.root, rank)?;
+    let root = remove_item(nodes, shape.root, rank)?;
     Ok(Done {
         shape: Shape { root, ..shape },
         change: Change::of(moved, dropped, Vec::new(alloc)),

@@ -65,7 +65,7 @@ fn codes_without_rows(
 }
 
 /// A tree becomes the balanced tree of its items that some row has.
-fn swept(nodes: &mut Arena, shape: Shape) -> Result<Done, OutOfMemory>
+fn sweep(nodes: &mut Arena, shape: Shape) -> Result<Done, OutOfMemory>
     requires link { IsLink nodes.old shape.root }
     requires short { height (tree_of nodes.old shape.root) ≤ 63 }
     requires alive { shape.alive ≡ live (inorder (tree_of nodes.old shape.root)) }
@@ -98,7 +98,7 @@ fn swept(nodes: &mut Arena, shape: Shape) -> Result<Done, OutOfMemory>
 
 /// A tree becomes the balanced tree of its items that some row has, where they are too few against the greatest number of
 /// items.
-pub fn pruned(nodes: &mut Arena, shape: Shape) -> Result<Done, OutOfMemory>
+pub fn sweep_if_sparse(nodes: &mut Arena, shape: Shape) -> Result<Done, OutOfMemory>
     requires link { IsLink nodes.old shape.root }
     requires short { height (tree_of nodes.old shape.root) ≤ 63 }
     requires alive { shape.alive ≡ live (inorder (tree_of nodes.old shape.root)) }
@@ -110,7 +110,7 @@ pub fn pruned(nodes: &mut Arena, shape: Shape) -> Result<Done, OutOfMemory>
     ensures sparse { IfOk result (λ done. is_sparse shape.most (inorder (tree_of nodes.old shape.root)) ≡ true → done.change ≡ swept_sum (tree_of nodes.old shape.root)) }
 {
     if needs_whole(u64::from(shape.alive), u64::from(shape.most)) {
-        return swept(nodes, shape);
+        return sweep(nodes, shape);
     }
     let alloc = nodes.allocator();
     let change = Change::of(Vec::new(alloc), Vec::new(alloc), Vec::new(alloc));

@@ -40,11 +40,11 @@ returns-clause-suits c = λ same_time suits.
     let done = c.in_ok-done.done in
     let P : Seen → Type 0 = λ seen. SuitsMode same_time seen.column in
     subst P (sym c.of.ensures)
-    (suits_added same_time c.args.place c.args.body (column_of t.nodes t.shape.root t.shape.most) (column_of c.inserted.new.nodes done.shape.root done.shape.most) c.in_ok-done.ensures.column
+    (suits_added same_time c.args.place c.args.body (column_of t.nodes t.shape.root t.shape.most) (column_of c.insert_and_compact.new.nodes done.shape.root done.shape.most) c.in_ok-done.ensures.column
     (subst P (sym t.ensures.seen) suits))
 
 pub returns-clause-short : goal.returns-clause-short
 returns-clause-short c =
     let done = c.in_ok-done.done in
     let P : Seen → Type 0 = λ seen. height seen.column.tree ≤ 63 in
-    subst P (sym c.of.ensures) (sound_short c.inserted.new.nodes done.shape.root done.shape.alive done.shape.most false c.in_ok-done.ensures.sound)
+    subst P (sym c.of.ensures) (sound_short c.insert_and_compact.new.nodes done.shape.root done.shape.alive done.shape.most false c.in_ok-done.ensures.sound)

@@ -40,11 +40,11 @@ returns-clause-suits c = λ same_time suits.
     let done = c.in_ok-done.done in
     let P : Seen → Type 0 = λ seen. SuitsMode same_time seen.column in
     subst P (sym c.of.ensures)
-    (suits_laid same_time (column_of t.nodes t.shape.root t.shape.most) (column_of c.laid.new.nodes done.shape.root done.shape.most) c.in_ok-done.ensures.column
+    (suits_laid same_time (column_of t.nodes t.shape.root t.shape.most) (column_of c.balance_all.new.nodes done.shape.root done.shape.most) c.in_ok-done.ensures.column
     (subst P (sym t.ensures.seen) suits))
 
 pub returns-clause-short : goal.returns-clause-short
 returns-clause-short c =
     let done = c.in_ok-done.done in
     let P : Seen → Type 0 = λ seen. height seen.column.tree ≤ 63 in
-    subst P (sym c.of.ensures) (sound_short c.laid.new.nodes done.shape.root done.shape.alive done.shape.most false c.in_ok-done.ensures.sound)
+    subst P (sym c.of.ensures) (sound_short c.balance_all.new.nodes done.shape.root done.shape.alive done.shape.most false c.in_ok-done.ensures.sound)

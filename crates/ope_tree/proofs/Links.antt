@@ -1,7 +1,7 @@
 -- Links and the trees that they name, while the arena grows.
-use Rattle.std.proofs.Common.{◌≡◌, ℕ, ◌<◌, List, [], ◌∷◌, ◌++◌, length, reverse, get_or, Option, Some, None, refl, ap, ap₂, ◌∙◌, sym, subst, inl, inr, arith, eq-eqb, append_assoc}
+use Rattle.std.proofs.Common.{◌≡◌, ℕ, ◌+◌, ◌<◌, List, [], ◌∷◌, ◌++◌, length, reverse, take, drop, get_or, Option, Some, None, Result, Ok, Err, OnOk, OnErr, refl, ap, ap₂, ◌∙◌, sym, subst, inl, inr, arith, eq-eqb, append_assoc}
 use Rattle.std.proofs.lemmas.Bool.{cases_eq, ne_eqb}
-use Rattle.std.proofs.lemmas.List.{length-reverse, reverse-reverse, reverse-append}
+use Rattle.std.proofs.lemmas.List.{length-reverse, reverse-reverse, reverse-append, get_or-take, get_or-drop}
 use Rattle.std.proofs.Math.Seq.{get_or-append_seam}
 use Rattle.std.proofs.Math.ListN.{get_or-append}
 use Rattle.tree_model.specs.Trees.{Tree, node, size}
@@ -117,13 +117,30 @@ read_at (n ∷ older) at d fits h =
           subst P (sym front) (lifted n older at (get_or (reverse older) at d) lower (read_at older at d fits.1 lower))
     ]
 
--- in the arena's own order
-pub read_item : (items : List Node) (at : ℕ) (m : Node) → Fits (reverse items) → at < length (reverse items) → m ≡ get_or items at m → IsNodeAt (reverse items) at m
-read_item items at m fits h e =
+-- the first of some items from a number on, in the arena's own order
+pub read_run : (items seen run : List Node) (at : ℕ) (d : Node) → reverse items ≡ seen → Fits (reverse items) → at < length seen → run ≡ take (length run) (drop at items) → (at < length items → 0 < length run) → IsNodeAt seen at (get_or run 0 d)
+read_run items seen run at d same fits h is some =
+    let many : length seen ≡ length items = ap (λ (ns : List Node). length ns) (sym same) ∙ length-reverse items in
+    let here : at + 0 ≡ at = omega arith in
+    let first : get_or run 0 d ≡ get_or items at d =
+    ap (λ (ns : List Node). get_or ns 0 d) is ∙ get_or-take (length run) (drop at items) 0 d (some (omega arith)) ∙ get_or-drop at items 0 d ∙ ap (λ (k : ℕ). get_or items k d) here in
+    let back : get_or (reverse (reverse items)) at d ≡ get_or run 0 d = ap (λ (ns : List Node). get_or ns at d) (reverse-reverse items) ∙ sym first in
     let P : Node → Type 0 = λ n. IsNodeAt (reverse items) at n in
-    let back : get_or (reverse (reverse items)) at m ≡ m = ap (λ (xs : List Node). get_or xs at m) (reverse-reverse items) ∙ sym e in
-    subst P back (read_at (reverse items) at m fits h)
+    let Q : List Node → Type 0 = λ ns. IsNodeAt ns at (get_or run 0 d) in
+    let within : at < length (reverse items) = omega (arith, length-reverse items) in
+    subst Q same (subst P back (read_at (reverse items) at d fits within))
 
 -- a list with one more at its end, newest first
 pub reverse-pushed : {A : Type 0} (xs : List A) (x : A) → reverse (xs ++ x ∷ []) ≡ x ∷ reverse xs
 reverse-pushed xs x = reverse-append xs (x ∷ [])
+
+-- one more fits, and without it they fit as before
+pub pushed_fits : {A E : Type 0} (old new seen : List Node) (n : Node) (r : Result A E) → reverse old ≡ seen → Fits (reverse old) → FitsAfter seen n → OnOk r (new ≡ old ++ n ∷ []) → OnErr r (new ≡ old) → Fits (reverse new)
+unfolding Fits
+pushed_fits old new seen n (Ok a) same fits after more none =
+    let P : List Node → Type 0 = λ ns. FitsAfter ns n in
+    let Q : List Node → Type 0 = λ ns. Fits ns in
+    subst Q (sym (ap (λ (ns : List Node). reverse ns) more ∙ reverse-pushed old n)) (subst P (sym same) after, fits)
+pushed_fits old new seen n (Err e) same fits after more none =
+    let Q : List Node → Type 0 = λ ns. Fits (reverse ns) in
+    subst Q (sym none) fits

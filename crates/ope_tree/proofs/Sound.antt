@@ -52,19 +52,6 @@ sound_after old new root link alive most alive_now most_now operation sound h e 
       fresh = λ no. cc;
     }
 
--- the same tree in another arena
-pub sound_elsewhere : (old new : List Node) (root link : Option ℕ) (alive most : ℕ) (spent : Bool) → IsSound old root alive most spent → spent ≡ false → IsLink new link → tree_of new link ≡ tree_of old root → IsSound new link alive most spent
-sound_elsewhere old new root link alive most spent sound none h e =
-    let P : Tree (Item Body) → Type 0 = λ t. IsKept Body (record { tree = t; most = most }) in
-    record {
-      is_link = h;
-      kept = subst P (sym e) sound.kept;
-      alive_is = sound.alive_is ∙ ap (λ (t : Tree (Item Body)). live (inorder t)) (sym e);
-      few = sound.few;
-      gone = λ yes. cc;
-      fresh = λ yes. cc;
-    }
-
 -- what an operation does to codes is a change
 pub normal_after : (old : List Node) (root : Option ℕ) (alive most : ℕ) (operation : Operation Body) (s : Sum) → IsSound old root alive most false → (apply false operation (column_of old root most)).most ≤ 2 ^ 32 → s ≡ sum_of false (operation ∷ []) (column_of old root most) → IsNormal s
 unfolding apply_all

@@ -1,5 +1,5 @@
 -- What contracts see of a tree: its column, the names of its nodes, and whether it is spent; and the code of that, by which proofs tell two apart.
-use Rattle.std.specs.Prelude.{◌≡◌, ℕ, ◌<◌, ◌^◌, Bool, true, List, [], ◌∷◌, ◌++◌, Option, Some, None, refl}
+use Rattle.std.specs.Prelude.{◌≡◌, ℕ, ◌<◌, ◌^◌, Bool, true, false, List, [], ◌∷◌, ◌++◌, Option, Some, None, refl}
 use Rattle.std.specs.Coded.{Coded, code_by, coded×, coded_ℕ, coded_bool, coded_list, coded_option}
 use Rattle.std.proofs.Common.{ap, ◌∙◌, append_assoc}
 use Rattle.mope_base.specs.declared.body.Body.{Body}
@@ -8,6 +8,7 @@ use Rattle.tree_model.specs.Items.{Item, live}
 use Rattle.tree_model.specs.Columns.{Column, empty_column}
 use Rattle.tree_model.specs.ColumnLaws.{IsKept}
 use Rattle.ope_tree.specs.declared.nodes.Node.{Node}
+use Rattle.ope_tree.specs.declared.shape.Shape.{Shape}
 use Rattle.ope_tree.specs.Nodes.{tree_of, names_of, IsLink}
 
 pub record Seen : Type 0 where
@@ -34,6 +35,14 @@ pub record IsSound (nodes : List Node) (root : Option ℕ) (alive most : ℕ) (s
   pub few : most < 2 ^ 32
   pub gone : spent ≡ true → root ≡ None
   pub fresh : spent ≡ true → most ≡ 0
+
+-- the shape is that of a tree over these nodes, which isn't spent
+abbrev pub IsShape : List Node → Shape → Type 0
+IsShape nodes shape = IsSound nodes shape.root shape.alive shape.most false
+
+-- the column that the tree of a shape is
+abbrev pub column_in : List Node → Shape → Column Body
+column_in nodes shape = column_of nodes shape.root shape.most
 
 -- ---- a tree as a list of marks: None for an empty tree, an item after both trees of its node
 

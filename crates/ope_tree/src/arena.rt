@@ -1,8 +1,9 @@
-//! A list of nodes that only grows, in which each node stands after its children.
+//! A list of nodes that only grows, in which each node stands after its children, and whose pages other lists may share.
 ghost use Rattle.ope_tree.specs.Nodes.{FitsAfter, IsNodeAt};
 ghost use Rattle.std.specs.Prelude.{◌≡◌, ◌<◌, [], ◌∷◌, length, IfOk, OnErr};
 
 use crate::nodes::Node;
+use cow_pages::Paged;
 use mope_base::OutOfMemory;
 use std::alloc::Global;
 use std::marker::Model;
@@ -12,7 +13,7 @@ use std::marker::Model;
 #[derive(Drop)]
 pub struct Arena {
     alloc: Global,
-    nodes: Vec<Node>,
+    nodes: Paged<Node>,
 }
 
 impl Model for Arena {
@@ -22,9 +23,9 @@ impl Model for Arena {
 
     ghost Value = { List Node };
 
-    ghost view = { λ a. reverse a.nodes.items };
+    ghost view = { λ a. reverse a.nodes };
 
-    ghost invariant = { λ a. Fits (reverse a.nodes.items) };
+    ghost invariant = { λ a. Fits (reverse a.nodes) };
 }
 
 impl Arena {
@@ -34,7 +35,7 @@ impl Arena {
     {
         Arena {
             alloc,
-            nodes: Vec::new(alloc),
+            nodes: Paged::new(alloc),
         }
     }
 
@@ -60,7 +61,7 @@ impl Arena {
         requires { at < length self.now }
         ensures { IsNodeAt self.now at result }
     {
-        self.nodes[at as usize]
+        self.nodes.run_at(at as usize)[0]
     }
 
     /// Puts a node after the others; its number is how many they are. It must fit after them. Numbers from 2^32 on are
@@ -74,7 +75,22 @@ impl Arena {
         let Ok(at) = u32::try_from(self.nodes.len()) else {
             return Err(OutOfMemory);
         };
-        self.nodes.push(node)?;
-        Ok(at)
+        match self.nodes.push(node) {
+            Ok(()) => Ok(at),
+            Err(_) => Err(OutOfMemory),
+        }
+    }
+
+    /// A second list with the same nodes, which shares all pages with this one. It costs one link.
+    pub fn share(&self) -> Result<Arena, OutOfMemory>
+        ensures { IfOk result (λ arena. arena ≡ self.now) }
+    {
+        match self.nodes.share() {
+            Ok(nodes) => Ok(Arena {
+                alloc: self.alloc,
+                nodes,
+            }),
+            Err(_) => Err(OutOfMemory),
+        }
     }
 }

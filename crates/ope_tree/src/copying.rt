@@ -1,4 +1,4 @@
-//! Copies of trees: a second tree with the same items, and an arena that has grown large made small again.
+//! A second tree with the same items, and an arena that has grown large made small again.
 ghost use Rattle.ope_tree.specs.Built.{IsBuilt};
 ghost use Rattle.ope_tree.specs.Nodes.{IsLink, tree_of};
 ghost use Rattle.std.specs.Prelude.{◌≡◌, false, true, IfOk, IsErr};
@@ -13,7 +13,7 @@ use mope_base::OutOfMemory;
 const SPARE: usize = 64;
 
 /// The tree of a link of one arena in another.
-fn copied(from: &Arena, link: Option<u32>, into: &mut Arena) -> Result<Option<u32>, OutOfMemory>
+fn copy_into(from: &Arena, link: Option<u32>, into: &mut Arena) -> Result<Option<u32>, OutOfMemory>
     requires { IsLink from.now link }
     ensures { IfOk result (λ copy. IsBuilt into.old into.new copy (tree_of from.now link)) }
 {
@@ -21,13 +21,13 @@ fn copied(from: &Arena, link: Option<u32>, into: &mut Arena) -> Result<Option<u3
         return Ok(None);
     };
     let node = from.get(at);
-    let left = copied(from, node.left, into)?;
-    let right = copied(from, node.right, into)?;
+    let left = copy_into(from, node.left, into)?;
+    let right = copy_into(from, node.right, into)?;
     join(into, left, node.entry, right)
 }
 
 /// The tree of a link once more, in an arena that has only its nodes where the old one had far more than it needs.
-pub fn compacted(nodes: &mut Arena, root: Option<u32>) -> Result<Option<u32>, OutOfMemory>
+pub fn compact(nodes: &mut Arena, root: Option<u32>) -> Result<Option<u32>, OutOfMemory>
     requires { IsLink nodes.old root }
     ensures link { IfOk result (λ link. IsLink nodes.new link) }
     ensures same { IfOk result (λ link. tree_of nodes.new link ≡ tree_of nodes.old root) }
@@ -36,13 +36,14 @@ pub fn compacted(nodes: &mut Arena, root: Option<u32>) -> Result<Option<u32>, Ou
         return Ok(root);
     }
     let mut fresh = nodes.fresh();
-    let link = copied(nodes, root, &mut fresh)?;
+    let link = copy_into(nodes, root, &mut fresh)?;
     *nodes = fresh;
     Ok(link)
 }
 
 impl Tree {
-    /// A tree with the same column. A spent tree has no copy: the answer is `OutOfMemory`.
+    /// A second tree with the same column, which shares its nodes with this one: it costs the same whatever their size, and a
+    /// later change of either copies the few pages that it touches. A spent tree has no copy: the answer is `OutOfMemory`.
     pub fn copy(&self) -> Result<Tree, OutOfMemory>
         ensures column { IfOk result (λ copy. copy.column ≡ self.now.column) }
         ensures fresh { IfOk result (λ copy. copy.spent ≡ false) }
@@ -51,13 +52,9 @@ impl Tree {
         if self.spent {
             return Err(OutOfMemory);
         }
-        let mut nodes = self.nodes.fresh();
-        let root = copied(&self.nodes, self.root, &mut nodes)?;
         Ok(Tree {
-            nodes,
-            root,
-            alive: self.alive,
-            most: self.most,
+            nodes: self.nodes.share()?,
+            shape: self.shape,
             spent: false,
         })
     }

@@ -1,11 +1,10 @@
 //! What an operation hands back to the tree.
 use crate::change::Change;
+use crate::shape::Shape;
 
-/// The tree after an operation: the link to its root, how many items have rows, the greatest number of items, and the change.
+/// The tree after an operation, and what that did to its codes.
 #[derive(Drop)]
 pub struct Done {
-    pub root: Option<u32>,
-    pub alive: u32,
-    pub most: u32,
+    pub shape: Shape,
     pub change: Change,
 }

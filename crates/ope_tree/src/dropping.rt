@@ -6,7 +6,7 @@ ghost use Rattle.ope_tree.specs.Built.{IsBuilt};
 ghost use Rattle.ope_tree.specs.Dropped.{IsDropChange};
 ghost use Rattle.ope_tree.specs.Listed.{count_at};
 ghost use Rattle.ope_tree.specs.Nodes.{IsLink, item_of, tree_of};
-ghost use Rattle.ope_tree.specs.Seen.{IsSound, column_of, empty_seen};
+ghost use Rattle.ope_tree.specs.Seen.{IsShape, column_in, empty_seen};
 ghost use Rattle.path_code.specs.Sums.{sum_of};
 ghost use Rattle.std.specs.Prelude.{◌≡◌, ◌+◌, ◌^◌, ◌<◌, ◌≤◌, ◌&&◌, [], ◌∷◌, false, true, slice_get, IfOk, OnOk, OnErr};
 ghost use Rattle.tree_model.specs.ColumnLaws.{IsKept, SuitsMode};
@@ -19,12 +19,13 @@ use crate::Tree;
 use crate::arena::Arena;
 use crate::building::{join, size_of};
 use crate::change::Change;
-use crate::copying::compacted;
+use crate::copying::compact;
 use crate::done::Done;
 use crate::nodes::Entry;
 use crate::reading::entry_at;
-use crate::removing::withdrawn;
-use crate::sweeping::pruned;
+use crate::removing::take_out;
+use crate::shape::Shape;
+use crate::sweeping::sweep_if_sparse;
 use mope_base::{Mode, OutOfMemory};
 use scapegoat::needs_whole;
 
@@ -46,14 +47,14 @@ fn fewer_rows(entry: Entry) -> Entry
 }
 
 /// How many items, 0 or 1, have no row any more where this one has one fewer.
-fn emptied_by(entry: Entry) -> u32
+fn newly_dead(entry: Entry) -> u32
     ensures { live (item_of entry ∷ []) ≡ live (one_less (item_of entry) ∷ []) + result }
 {
     if entry.count == 1 { 1 } else { 0 }
 }
 
 /// The tree of a link with one row fewer at the item of a rank.
-fn lowered(nodes: &mut Arena, link: Option<u32>, rank: u32) -> Result<Fewer, OutOfMemory>
+fn lower_count(nodes: &mut Arena, link: Option<u32>, rank: u32) -> Result<Fewer, OutOfMemory>
     requires { IsLink nodes.old link }
     ensures built { IfOk result (λ fewer. IsBuilt nodes.old nodes.new fewer.link (change_tree one_less (tree_of nodes.old link) rank)) }
     ensures live { IfOk result (λ fewer. live (inorder (tree_of nodes.old link)) ≡ live (inorder (change_tree one_less (tree_of nodes.old link) rank)) + fewer.emptied) }
@@ -64,7 +65,7 @@ fn lowered(nodes: &mut Arena, link: Option<u32>, rank: u32) -> Result<Fewer, Out
     let node = nodes.get(at);
     let before = size_of(nodes, node.left);
     if rank < before {
-        let left = lowered(nodes, node.left, rank)?;
+        let left = lower_count(nodes, node.left, rank)?;
         let link = join(nodes, left.link, node.entry, node.right)?;
         return Ok(Fewer {
             link,
@@ -72,7 +73,7 @@ fn lowered(nodes: &mut Arena, link: Option<u32>, rank: u32) -> Result<Fewer, Out
         });
     }
     if before < rank {
-        let right = lowered(nodes, node.right, rank - before - 1)?;
+        let right = lower_count(nodes, node.right, rank - before - 1)?;
         let link = join(nodes, node.left, node.entry, right.link)?;
         return Ok(Fewer {
             link,
@@ -82,7 +83,7 @@ fn lowered(nodes: &mut Arena, link: Option<u32>, rank: u32) -> Result<Fewer, Out
     let link = join(nodes, node.left, fewer_rows(node.entry), node.right)?;
     Ok(Fewer {
         link,
-        emptied: emptied_by(node.entry),
+        emptied: newly_dead(node.entry),
     })
 }
 
@@ -98,68 +99,67 @@ fn has_no_rows(nodes: &Arena, link: Option<u32>, rank: u32) -> bool
 }
 
 /// Whether the item of a rank, which has just lost a row, goes and the tree isn't balanced whole.
-fn leaves(nodes: &Arena, root: Option<u32>, alive: u32, most: u32, rank: u32, mode: Mode) -> bool
-    requires link { IsLink nodes.now root }
-    requires alive { alive ≡ live (inorder (tree_of nodes.now root)) }
-    ensures { result ≡ goes_alone (is_same_time mode) most (inorder (tree_of nodes.now root)) rank }
+fn goes_alone(nodes: &Arena, shape: Shape, rank: u32, mode: Mode) -> bool
+    requires link { IsLink nodes.now shape.root }
+    requires alive { shape.alive ≡ live (inorder (tree_of nodes.now shape.root)) }
+    ensures { result ≡ goes_alone (is_same_time mode) shape.most (inorder (tree_of nodes.now shape.root)) rank }
 {
-    if needs_whole(u64::from(alive), u64::from(most)) {
+    if needs_whole(u64::from(shape.alive), u64::from(shape.most)) {
         return false;
     }
     match mode {
         Mode::Ordinary => false,
-        Mode::SameTime => has_no_rows(nodes, root, rank),
+        Mode::SameTime => has_no_rows(nodes, shape.root, rank),
     }
 }
 
 /// The tree of a link, whose item of a rank has just lost a row: that item goes where its mode says so, and where too few
 /// items have rows, the tree becomes the balanced tree of those.
-fn tidied(
+fn take_out_or_sweep(
     nodes: &mut Arena,
-    root: Option<u32>,
-    alive: u32,
-    most: u32,
+    shape: Shape,
     rank: u32,
     mode: Mode,
 ) -> Result<Done, OutOfMemory>
-    requires link { IsLink nodes.old root }
-    requires short { height (tree_of nodes.old root) ≤ 63 }
-    requires is_rank { rank < size (tree_of nodes.old root) }
-    requires alive { alive ≡ live (inorder (tree_of nodes.old root)) }
-    ensures link { IfOk result (λ done. IsLink nodes.new done.root) }
-    ensures column { IfOk result (λ done. column_of nodes.new done.root done.most ≡ pruned (taken_out (is_same_time mode && is_dead (slice_get (inorder (tree_of nodes.old root)) rank)) (tree_of nodes.old root) rank) most) }
-    ensures alive { IfOk result (λ done. done.alive ≡ live (inorder (tree_of nodes.new done.root))) }
-    ensures few { IfOk result (λ done. done.most < 2 ^ 32) }
-    ensures change { IfOk result (λ done. IsDropChange (is_same_time mode) most rank (tree_of nodes.old root) done.change) }
+    requires link { IsLink nodes.old shape.root }
+    requires short { height (tree_of nodes.old shape.root) ≤ 63 }
+    requires is_rank { rank < size (tree_of nodes.old shape.root) }
+    requires alive { shape.alive ≡ live (inorder (tree_of nodes.old shape.root)) }
+    ensures link { IfOk result (λ done. IsLink nodes.new done.shape.root) }
+    ensures column { IfOk result (λ done. column_in nodes.new done.shape ≡ pruned (taken_out (is_same_time mode && is_dead (slice_get (inorder (tree_of nodes.old shape.root)) rank)) (tree_of nodes.old shape.root) rank) shape.most) }
+    ensures alive { IfOk result (λ done. done.shape.alive ≡ live (inorder (tree_of nodes.new done.shape.root))) }
+    ensures few { IfOk result (λ done. done.shape.most < 2 ^ 32) }
+    ensures change { IfOk result (λ done. IsDropChange (is_same_time mode) shape.most rank (tree_of nodes.old shape.root) done.change) }
 {
-    if leaves(nodes, root, alive, most, rank, mode) {
-        return withdrawn(nodes, root, alive, most, rank);
+    if goes_alone(nodes, shape, rank, mode) {
+        return take_out(nodes, shape, rank);
     }
-    pruned(nodes, root, alive, most)
+    sweep_if_sparse(nodes, shape)
 }
 
 /// One row fewer at the item of a rank of the tree of a link.
-fn dropped(
+fn drop_and_compact(
     nodes: &mut Arena,
-    root: Option<u32>,
-    alive: u32,
-    most: u32,
+    shape: Shape,
     rank: u32,
     mode: Mode,
 ) -> Result<Done, OutOfMemory>
-    requires sound { IsSound nodes.old root alive most false }
-    requires is_rank { rank < size (tree_of nodes.old root) }
-    ensures sound { IfOk result (λ done. IsSound nodes.new done.root done.alive done.most false) }
-    ensures column { IfOk result (λ done. column_of nodes.new done.root done.most ≡ drop_one (is_same_time mode) rank (column_of nodes.old root most)) }
-    ensures change { IfOk result (λ done. done.change ≡ sum_of (is_same_time mode) (Drop rank ∷ []) (column_of nodes.old root most)) }
+    requires sound { IsShape nodes.old shape }
+    requires is_rank { rank < size (tree_of nodes.old shape.root) }
+    ensures sound { IfOk result (λ done. IsShape nodes.new done.shape) }
+    ensures column { IfOk result (λ done. column_in nodes.new done.shape ≡ drop_one (is_same_time mode) rank (column_in nodes.old shape)) }
+    ensures change { IfOk result (λ done. done.change ≡ sum_of (is_same_time mode) (Drop rank ∷ []) (column_in nodes.old shape)) }
 {
-    let fewer = lowered(nodes, root, rank)?;
-    let done = tidied(nodes, fewer.link, alive - fewer.emptied, most, rank, mode)?;
-    let root = compacted(nodes, done.root)?;
+    let fewer = lower_count(nodes, shape.root, rank)?;
+    let lower = Shape {
+        root: fewer.link,
+        alive: shape.alive - fewer.emptied,
+        most: shape.most,
+    };
+    let done = take_out_or_sweep(nodes, lower, rank, mode)?;
+    let root = compact(nodes, done.shape.root)?;
     Ok(Done {
-        root,
-        alive: done.alive,
-        most: done.most,
+        shape: Shape { root, ..done.shape },
         change: done.change,
     })
 }
@@ -182,25 +182,9 @@ impl Tree {
         ensures suits { SuitsMode (is_same_time mode) self.old.column → SuitsMode (is_same_time mode) self.new.column }
         ensures short { height self.new.column.tree ≤ 63 }
     {
-        let done = dropped(
-            &mut self.nodes,
-            self.root,
-            self.alive,
-            self.most,
-            rank,
-            mode,
-        );
-        match done {
-            Ok(done) => {
-                self.root = done.root;
-                self.alive = done.alive;
-                self.most = done.most;
-                Ok(done.change)
-            }
-            Err(_) => {
-                *self = Tree::gone(self.nodes.allocator());
-                Err(OutOfMemory)
-            }
-        }
+        let (mut nodes, shape) = self.take()?;
+        let done = drop_and_compact(&mut nodes, shape, rank, mode)?;
+        *self = Tree::of(nodes, done.shape);
+        Ok(done.change)
     }
 }

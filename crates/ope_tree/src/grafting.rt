@@ -37,7 +37,7 @@ pub fn graft(
 }
 
 /// The tree of a link with another item at a rank in place of the one there.
-pub fn replaced(
+pub fn replace_item(
     nodes: &mut Arena,
     link: Option<u32>,
     rank: u32,
@@ -52,12 +52,12 @@ pub fn replaced(
     let node = nodes.get(at);
     let before = size_of(nodes, node.left);
     if rank < before {
-        let left = replaced(nodes, node.left, rank, entry)?;
+        let left = replace_item(nodes, node.left, rank, entry)?;
         let changed = join(nodes, left, node.entry, node.right)?;
         return Ok(changed);
     }
     if before < rank {
-        let right = replaced(nodes, node.right, rank - before - 1, entry)?;
+        let right = replace_item(nodes, node.right, rank - before - 1, entry)?;
         let changed = join(nodes, node.left, node.entry, right)?;
         return Ok(changed);
     }

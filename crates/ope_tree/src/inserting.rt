@@ -2,7 +2,7 @@
 ghost use Rattle.ope_tree.specs.Conditions.{HasRoom};
 ghost use Rattle.ope_tree.specs.Listed.{count_at};
 ghost use Rattle.ope_tree.specs.Nodes.{item_of, tree_of};
-ghost use Rattle.ope_tree.specs.Seen.{IsSound, column_of, empty_seen};
+ghost use Rattle.ope_tree.specs.Seen.{IsShape, column_in, empty_seen};
 ghost use Rattle.path_code.specs.Sums.{sum_of};
 ghost use Rattle.std.specs.Prelude.{◌≡◌, ◌+◌, ◌^◌, ◌<◌, ◌≤◌, Bool, [], ◌∷◌, false, true, IfOk, OnOk, OnErr, IsErr};
 ghost use Rattle.tree_model.specs.ColumnLaws.{IsKept, SuitsMode};
@@ -16,12 +16,13 @@ use crate::Tree;
 use crate::arena::Arena;
 use crate::building::size_of;
 use crate::change::Change;
-use crate::copying::compacted;
+use crate::copying::compact;
 use crate::done::Done;
-use crate::grafting::{graft, replaced};
+use crate::grafting::{graft, replace_item};
 use crate::nodes::Entry;
 use crate::reading::entry_at;
-use crate::settling::rebalanced;
+use crate::settling::balance_tall_part;
+use crate::shape::Shape;
 use crate::ways::path_to;
 use mope_base::{Body, OutOfMemory};
 use path_code::{code, root as root_path};
@@ -39,7 +40,7 @@ fn added_alone(alloc: Global, code: u64) -> Result<Change, OutOfMemory>
 }
 
 /// How many items, 0 or 1, have rows where this one has one more and had none before.
-fn revived_by(entry: Entry) -> u32
+fn newly_live(entry: Entry) -> u32
     ensures live { live (one_more (item_of entry) ∷ []) ≡ live (item_of entry ∷ []) + result }
     ensures few { result ≤ 1 }
 {
@@ -57,125 +58,117 @@ fn more_rows(entry: Entry) -> Entry
     }
 }
 
-/// One row more of the item of a rank.
-fn raised(
-    nodes: &mut Arena,
-    root: Option<u32>,
-    alive: u32,
-    most: u32,
-    rank: u32,
-) -> Result<Done, OutOfMemory>
-    requires sound { IsSound nodes.old root alive most false }
-    requires is_rank { rank < size (tree_of nodes.old root) }
-    requires few { size (tree_of nodes.old root) < 2 ^ 31 }
-    requires room { count_at (column_of nodes.old root most) rank + 1 < 2 ^ 32 }
-    ensures sound { IfOk result (λ done. IsSound nodes.new done.root done.alive done.most false) }
-    ensures column { (body : Body) → IfOk result (λ done. column_of nodes.new done.root done.most ≡ add (Found rank) body (column_of nodes.old root most)) }
-    ensures change { (body : Body) → IfOk result (λ done. done.change ≡ sum_of false (Add (Found rank) body ∷ []) (column_of nodes.old root most)) }
+/// A tree with one row more at the item of a rank.
+fn raise_count(nodes: &mut Arena, shape: Shape, rank: u32) -> Result<Done, OutOfMemory>
+    requires sound { IsShape nodes.old shape }
+    requires is_rank { rank < size (tree_of nodes.old shape.root) }
+    requires few { size (tree_of nodes.old shape.root) < 2 ^ 31 }
+    requires room { count_at (column_in nodes.old shape) rank + 1 < 2 ^ 32 }
+    ensures sound { IfOk result (λ done. IsShape nodes.new done.shape) }
+    ensures column { (body : Body) → IfOk result (λ done. column_in nodes.new done.shape ≡ add (Found rank) body (column_in nodes.old shape)) }
+    ensures change { (body : Body) → IfOk result (λ done. done.change ≡ sum_of false (Add (Found rank) body ∷ []) (column_in nodes.old shape)) }
 {
     let alloc = nodes.allocator();
-    let entry = entry_at(nodes, root, rank).unwrap();
-    let raised = replaced(nodes, root, rank, more_rows(entry))?;
+    let entry = entry_at(nodes, shape.root, rank).unwrap();
+    let raised = replace_item(nodes, shape.root, rank, more_rows(entry))?;
     Ok(Done {
-        root: raised,
-        alive: alive + revived_by(entry),
-        most,
+        shape: Shape {
+            root: raised,
+            alive: shape.alive + newly_live(entry),
+            most: shape.most,
+        },
         change: Change::of(Vec::new(alloc), Vec::new(alloc), Vec::new(alloc)),
     })
 }
 
-/// A new item with one row at the gap of a rank.
-fn widened(
+/// A tree with a new item, which has one row, at the gap of a rank.
+fn insert_at_gap(
     nodes: &mut Arena,
-    root: Option<u32>,
-    alive: u32,
-    most: u32,
+    shape: Shape,
     rank: u32,
     body: Body,
 ) -> Result<Done, OutOfMemory>
-    requires sound { IsSound nodes.old root alive most false }
-    requires is_rank { rank ≤ size (tree_of nodes.old root) }
-    requires few { size (tree_of nodes.old root) < 2 ^ 31 }
-    ensures sound { IfOk result (λ done. IsSound nodes.new done.root done.alive done.most false) }
-    ensures column { IfOk result (λ done. column_of nodes.new done.root done.most ≡ add (Gap rank) body (column_of nodes.old root most)) }
-    ensures change { IfOk result (λ done. done.change ≡ sum_of false (Add (Gap rank) body ∷ []) (column_of nodes.old root most)) }
+    requires sound { IsShape nodes.old shape }
+    requires is_rank { rank ≤ size (tree_of nodes.old shape.root) }
+    requires few { size (tree_of nodes.old shape.root) < 2 ^ 31 }
+    ensures sound { IfOk result (λ done. IsShape nodes.new done.shape) }
+    ensures column { IfOk result (λ done. column_in nodes.new done.shape ≡ add (Gap rank) body (column_in nodes.old shape)) }
+    ensures change { IfOk result (λ done. done.change ≡ sum_of false (Add (Gap rank) body ∷ []) (column_in nodes.old shape)) }
 {
     let alloc = nodes.allocator();
-    let most = most.max(size_of(nodes, root) + 1);
-    let path = path_to(nodes, root, Place::Gap(rank), root_path());
-    let grafted = graft(nodes, root, rank, Entry { body, count: 1 })?;
+    let most = shape.most.max(size_of(nodes, shape.root) + 1);
+    let path = path_to(nodes, shape.root, Place::Gap(rank), root_path());
+    let grafted = graft(nodes, shape.root, rank, Entry { body, count: 1 })?;
     if !too_deep(path.len, u64::from(most)) {
         let change = added_alone(alloc, code(path))?;
         return Ok(Done {
-            root: grafted,
-            alive: alive + 1,
-            most,
+            shape: Shape {
+                root: grafted,
+                alive: shape.alive + 1,
+                most,
+            },
             change,
         });
     }
-    let rebuilt = rebalanced(nodes, grafted, rank, u64::from(most))?;
+    let rebuilt = balance_tall_part(nodes, grafted, rank, u64::from(most))?;
     let mut added = Vec::new(alloc);
     added.push(rebuilt.added)?;
     Ok(Done {
-        root: rebuilt.root,
-        alive: alive + 1,
-        most,
+        shape: Shape {
+            root: rebuilt.root,
+            alive: shape.alive + 1,
+            most,
+        },
         change: Change::of(rebuilt.moved, Vec::new(alloc), added),
     })
 }
 
-/// One row more at a place of the tree of a link, over the nodes that there are.
-fn placed(
+/// A tree with one row more at a place, over the nodes that there are.
+fn insert_at_place(
     nodes: &mut Arena,
-    root: Option<u32>,
-    alive: u32,
-    most: u32,
+    shape: Shape,
     place: Place,
     body: Body,
 ) -> Result<Done, OutOfMemory>
-    requires sound { IsSound nodes.old root alive most false }
-    requires is_place { IsPlaceOf (size (tree_of nodes.old root)) place }
-    requires few { size (tree_of nodes.old root) < 2 ^ 31 }
-    requires room { HasRoom (column_of nodes.old root most) place }
-    ensures sound { IfOk result (λ done. IsSound nodes.new done.root done.alive done.most false) }
-    ensures column { IfOk result (λ done. column_of nodes.new done.root done.most ≡ add place body (column_of nodes.old root most)) }
-    ensures change { IfOk result (λ done. done.change ≡ sum_of false (Add place body ∷ []) (column_of nodes.old root most)) }
+    requires sound { IsShape nodes.old shape }
+    requires is_place { IsPlaceOf (size (tree_of nodes.old shape.root)) place }
+    requires few { size (tree_of nodes.old shape.root) < 2 ^ 31 }
+    requires room { HasRoom (column_in nodes.old shape) place }
+    ensures sound { IfOk result (λ done. IsShape nodes.new done.shape) }
+    ensures column { IfOk result (λ done. column_in nodes.new done.shape ≡ add place body (column_in nodes.old shape)) }
+    ensures change { IfOk result (λ done. done.change ≡ sum_of false (Add place body ∷ []) (column_in nodes.old shape)) }
 {
     match place {
         Place::Found(rank) => {
-            let done = raised(nodes, root, alive, most, rank)?;
+            let done = raise_count(nodes, shape, rank)?;
             Ok(done)
         }
         Place::Gap(rank) => {
-            let done = widened(nodes, root, alive, most, rank, body)?;
+            let done = insert_at_gap(nodes, shape, rank, body)?;
             Ok(done)
         }
     }
 }
 
-/// One row more at a place of the tree of a link.
-fn inserted(
+/// A tree with one row more at a place, over no more nodes than the arena should have.
+fn insert_and_compact(
     nodes: &mut Arena,
-    root: Option<u32>,
-    alive: u32,
-    most: u32,
+    shape: Shape,
     place: Place,
     body: Body,
 ) -> Result<Done, OutOfMemory>
-    requires sound { IsSound nodes.old root alive most false }
-    requires is_place { IsPlaceOf (size (tree_of nodes.old root)) place }
-    requires few { size (tree_of nodes.old root) < 2 ^ 31 }
-    requires room { HasRoom (column_of nodes.old root most) place }
-    ensures sound { IfOk result (λ done. IsSound nodes.new done.root done.alive done.most false) }
-    ensures column { IfOk result (λ done. column_of nodes.new done.root done.most ≡ add place body (column_of nodes.old root most)) }
-    ensures change { IfOk result (λ done. done.change ≡ sum_of false (Add place body ∷ []) (column_of nodes.old root most)) }
+    requires sound { IsShape nodes.old shape }
+    requires is_place { IsPlaceOf (size (tree_of nodes.old shape.root)) place }
+    requires few { size (tree_of nodes.old shape.root) < 2 ^ 31 }
+    requires room { HasRoom (column_in nodes.old shape) place }
+    ensures sound { IfOk result (λ done. IsShape nodes.new done.shape) }
+    ensures column { IfOk result (λ done. column_in nodes.new done.shape ≡ add place body (column_in nodes.old shape)) }
+    ensures change { IfOk result (λ done. done.change ≡ sum_of false (Add place body ∷ []) (column_in nodes.old shape)) }
 {
-    let done = placed(nodes, root, alive, most, place, body)?;
-    let root = compacted(nodes, done.root)?;
+    let done = insert_at_place(nodes, shape, place, body)?;
+    let root = compact(nodes, done.shape.root)?;
     Ok(Done {
-        root,
-        alive: done.alive,
-        most: done.most,
+        shape: Shape { root, ..done.shape },
         change: done.change,
     })
 }
@@ -199,28 +192,9 @@ impl Tree {
         ensures suits { (same_time : Bool) → SuitsMode same_time self.old.column → SuitsMode same_time self.new.column }
         ensures short { height self.new.column.tree ≤ 63 }
     {
-        if self.spent {
-            return Err(OutOfMemory);
-        }
-        let done = inserted(
-            &mut self.nodes,
-            self.root,
-            self.alive,
-            self.most,
-            place,
-            body,
-        );
-        match done {
-            Ok(done) => {
-                self.root = done.root;
-                self.alive = done.alive;
-                self.most = done.most;
-                Ok(done.change)
-            }
-            Err(_) => {
-                *self = Tree::gone(self.nodes.allocator());
-                Err(OutOfMemory)
-            }
-        }
+        let (mut nodes, shape) = self.take()?;
+        let done = insert_and_compact(&mut nodes, shape, place, body)?;
+        *self = Tree::of(nodes, done.shape);
+        Ok(done.change)
     }
 }

@@ -18,6 +18,7 @@ mod reading;
 mod rebuilding;
 mod removing;
 mod settling;
+mod shape;
 mod stops;
 mod sweeping;
 mod tree;

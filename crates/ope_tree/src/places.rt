@@ -92,6 +92,6 @@ impl Tree {
             (NamesNothing self.now.column.tree (way path))
             (λ place. IsPlaceAt (Item Body) self.now.column.tree (way path) place) }
     {
-        place_along(&self.nodes, self.root, path)
+        place_along(&self.nodes, self.shape.root, path)
     }
 }

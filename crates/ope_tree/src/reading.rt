@@ -40,7 +40,7 @@ impl Tree {
     pub fn item(&self, rank: u32) -> Option<(Body, u32)>
         ensures { slice_get (items_of self.now.column) rank ≡ option_map paired result }
     {
-        match entry_at(&self.nodes, self.root, rank) {
+        match entry_at(&self.nodes, self.shape.root, rank) {
             None => None,
             Some(entry) => Some((entry.body, entry.count)),
         }
@@ -54,6 +54,6 @@ impl Tree {
         if !is_place(self.len(), place) {
             return None;
         }
-        Some(code(path_to(&self.nodes, self.root, place, root())))
+        Some(code(path_to(&self.nodes, self.shape.root, place, root())))
     }
 }

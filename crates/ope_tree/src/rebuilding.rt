@@ -1,6 +1,6 @@
 //! The whole tree balanced again.
 ghost use Rattle.ope_tree.specs.Nodes.{IsLink, items_of_entries, tree_of};
-ghost use Rattle.ope_tree.specs.Seen.{IsSound, column_of, empty_seen};
+ghost use Rattle.ope_tree.specs.Seen.{IsShape, column_in, empty_seen};
 ghost use Rattle.path_code.specs.Sums.{sum_of};
 ghost use Rattle.std.specs.Prelude.{◌≡◌, ◌≤◌, Bool, [], ◌∷◌, false, true, IfOk, OnOk, OnErr, IsErr};
 ghost use Rattle.tree_model.specs.ColumnLaws.{IsKept, SuitsMode};
@@ -15,10 +15,11 @@ use crate::change::Change;
 use crate::coding::{all_codes, differing};
 use crate::done::Done;
 use crate::nodes::Entry;
+use crate::shape::Shape;
 use mope_base::OutOfMemory;
 
 /// The balanced tree of these items, in place of all nodes there were.
-pub fn renewed(nodes: &mut Arena, entries: &[Entry]) -> Result<Option<u32>, OutOfMemory>
+pub fn balance_anew(nodes: &mut Arena, entries: &[Entry]) -> Result<Option<u32>, OutOfMemory>
     ensures link { IfOk result (λ link. IsLink nodes.new link) }
     ensures tree { IfOk result (λ link. tree_of nodes.new link ≡ balanced (items_of_entries entries.now)) }
 {
@@ -28,24 +29,26 @@ pub fn renewed(nodes: &mut Arena, entries: &[Entry]) -> Result<Option<u32>, OutO
     Ok(link)
 }
 
-/// The tree of a link balanced with all its items.
-fn laid(nodes: &mut Arena, root: Option<u32>, alive: u32, most: u32) -> Result<Done, OutOfMemory>
-    requires { IsSound nodes.old root alive most false }
-    ensures sound { IfOk result (λ done. IsSound nodes.new done.root done.alive done.most false) }
-    ensures column { IfOk result (λ done. column_of nodes.new done.root done.most ≡ lay (column_of nodes.old root most)) }
-    ensures change { IfOk result (λ done. done.change ≡ sum_of false (Lay ∷ []) (column_of nodes.old root most)) }
+/// A tree becomes the balanced tree of all its items.
+fn balance_all(nodes: &mut Arena, shape: Shape) -> Result<Done, OutOfMemory>
+    requires { IsShape nodes.old shape }
+    ensures sound { IfOk result (λ done. IsShape nodes.new done.shape) }
+    ensures column { IfOk result (λ done. column_in nodes.new done.shape ≡ lay (column_in nodes.old shape)) }
+    ensures change { IfOk result (λ done. done.change ≡ sum_of false (Lay ∷ []) (column_in nodes.old shape)) }
 {
     let alloc = nodes.allocator();
-    let before = all_codes(nodes, root)?;
+    let before = all_codes(nodes, shape.root)?;
     let mut entries = Vec::new(alloc);
-    collect(nodes, root, &mut entries)?;
-    let root = renewed(nodes, &entries)?;
+    collect(nodes, shape.root, &mut entries)?;
+    let root = balance_anew(nodes, &entries)?;
     let after = all_codes(nodes, root)?;
     let moved = differing(alloc, &before, &after)?;
     Ok(Done {
-        root,
-        alive,
-        most: size_of(nodes, root),
+        shape: Shape {
+            root,
+            alive: shape.alive,
+            most: size_of(nodes, root),
+        },
         change: Change::of(moved, Vec::new(alloc), Vec::new(alloc)),
     })
 }
@@ -63,20 +66,9 @@ impl Tree {
         ensures suits { (same_time : Bool) → SuitsMode same_time self.old.column → SuitsMode same_time self.new.column }
         ensures short { height self.new.column.tree ≤ 63 }
     {
-        if self.spent {
-            return Err(OutOfMemory);
-        }
-        match laid(&mut self.nodes, self.root, self.alive, self.most) {
-            Ok(done) => {
-                self.root = done.root;
-                self.alive = done.alive;
-                self.most = done.most;
-                Ok(done.change)
-            }
-            Err(_) => {
-                *self = Tree::gone(self.nodes.allocator());
-                Err(OutOfMemory)
-            }
-        }
+        let (mut nodes, shape) = self.take()?;
+        let done = balance_all(&mut nodes, shape)?;
+        *self = Tree::of(nodes, done.shape);
+        Ok(done.change)
     }
 }

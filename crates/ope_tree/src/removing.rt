@@ -12,6 +12,7 @@ use crate::change::Change;
 use crate::done::Done;
 use crate::moving::removal_moved;
 use crate::nodes::Entry;
+use crate::shape::Shape;
 use crate::ways::path_to;
 use mope_base::OutOfMemory;
 use path_code::{code, root as root_path};
@@ -30,7 +31,7 @@ fn first_or(nodes: &Arena, link: Option<u32>, otherwise: Entry) -> Entry
 }
 
 /// An item between two trees without the first item of all of these. That one's right tree moves up.
-fn without_first(
+fn remove_first(
     nodes: &mut Arena,
     left: Option<u32>,
     entry: Entry,
@@ -44,13 +45,13 @@ fn without_first(
         return Ok(right);
     };
     let node = nodes.get(at);
-    let lower = without_first(nodes, node.left, node.entry, node.right)?;
+    let lower = remove_first(nodes, node.left, node.entry, node.right)?;
     let rest = join(nodes, lower, entry, right)?;
     Ok(rest)
 }
 
 /// The trees on the two sides of an item that goes, as one tree: the only one, or both under the first item of the right one.
-fn joined(
+fn join_sides(
     nodes: &mut Arena,
     left: Option<u32>,
     right: Option<u32>,
@@ -67,13 +68,13 @@ fn joined(
     };
     let node = nodes.get(at);
     let first = first_or(nodes, node.left, node.entry);
-    let rest = without_first(nodes, node.left, node.entry, node.right)?;
+    let rest = remove_first(nodes, node.left, node.entry, node.right)?;
     let link = join(nodes, left, first, rest)?;
     Ok(link)
 }
 
 /// The tree of a link without the item of a rank.
-fn removed(nodes: &mut Arena, link: Option<u32>, rank: u32) -> Result<Option<u32>, OutOfMemory>
+fn remove_item(nodes: &mut Arena, link: Option<u32>, rank: u32) -> Result<Option<u32>, OutOfMemory>
     requires { IsLink nodes.old link }
     ensures { IfOk result (λ fewer. IsBuilt nodes.old nodes.new fewer (remove_tree (tree_of nodes.old link) rank)) }
 {
@@ -83,46 +84,39 @@ fn removed(nodes: &mut Arena, link: Option<u32>, rank: u32) -> Result<Option<u32
     let node = nodes.get(at);
     let before = size_of(nodes, node.left);
     if rank < before {
-        let left = removed(nodes, node.left, rank)?;
+        let left = remove_item(nodes, node.left, rank)?;
         let fewer = join(nodes, left, node.entry, node.right)?;
         return Ok(fewer);
     }
     if before < rank {
-        let right = removed(nodes, node.right, rank - before - 1)?;
+        let right = remove_item(nodes, node.right, rank - before - 1)?;
         let fewer = join(nodes, node.left, node.entry, right)?;
         return Ok(fewer);
     }
-    let fewer = joined(nodes, node.left, node.right)?;
+    let fewer = join_sides(nodes, node.left, node.right)?;
     Ok(fewer)
 }
 
-/// The tree of a link, of whose items `alive` have rows, without the item of a rank, which has none. Only the codes of the
+/// A tree without the item of a rank, which has no rows. Only the codes of the
 /// part that moves up are computed.
-pub fn withdrawn(
-    nodes: &mut Arena,
-    root: Option<u32>,
-    alive: u32,
-    most: u32,
-    rank: u32,
-) -> Result<Done, OutOfMemory>
-    requires link { IsLink nodes.old root }
-    requires short { height (tree_of nodes.old root) ≤ 63 }
-    requires is_rank { rank < size (tree_of nodes.old root) }
-    ensures link { IfOk result (λ done. IsLink nodes.new done.root) }
-    ensures tree { IfOk result (λ done. tree_of nodes.new done.root ≡ remove_tree (tree_of nodes.old root) rank) }
-    ensures alive { IfOk result (λ done. done.alive ≡ alive) }
-    ensures most { IfOk result (λ done. done.most ≡ most) }
-    ensures change { IfOk result (λ done. done.change ≡ removal_sum (tree_of nodes.old root) rank) }
+pub fn take_out(nodes: &mut Arena, shape: Shape, rank: u32) -> Result<Done, OutOfMemory>
+    requires link { IsLink nodes.old shape.root }
+    requires short { height (tree_of nodes.old shape.root) ≤ 63 }
+    requires is_rank { rank < size (tree_of nodes.old shape.root) }
+    ensures link { IfOk result (λ done. IsLink nodes.new done.shape.root) }
+    ensures tree { IfOk result (λ done. tree_of nodes.new done.shape.root ≡ remove_tree (tree_of nodes.old shape.root) rank) }
+    ensures alive { IfOk result (λ done. done.shape.alive ≡ shape.alive) }
+    ensures most { IfOk result (λ done. done.shape.most ≡ shape.most) }
+    ensures change { IfOk result (λ done. done.change ≡ removal_sum (tree_of nodes.old shape.root) rank) }
 {
     let alloc = nodes.allocator();
-    let moved = removal_moved(nodes, root, root_path(), rank)?;
+    let moved = removal_moved(nodes, shape.root, root_path(), rank)?;
     let mut dropped = Vec::new(alloc);
-    dropped.push(code(path_to(nodes, root, Place::Found(rank), root_path())))?;
-    let root = removed(nodes, root, rank)?;
+    let path = path_to(nodes, shape.root, Place::Found(rank), root_path());
+    dropped.push(code(path))?;
+    let root = remove_item(nodes, shape.root, rank)?;
     Ok(Done {
-        root,
-        alive,
-        most,
+        shape: Shape { root, ..shape },
         change: Change::of(moved, dropped, Vec::new(alloc)),
     })
 }

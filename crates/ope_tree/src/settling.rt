@@ -69,7 +69,7 @@ pub fn part_below(nodes: &Arena, part: Part, depth: u8) -> Part
 }
 
 /// The tree of a link with another tree in place of the part so many steps down on the way to the item of a rank.
-pub fn put(
+pub fn put_part(
     nodes: &mut Arena,
     link: Option<u32>,
     rank: u32,
@@ -89,12 +89,12 @@ pub fn put(
     let node = nodes.get(at);
     let before = size_of(nodes, node.left);
     if rank < before {
-        let left = put(nodes, node.left, rank, depth - 1, part)?;
+        let left = put_part(nodes, node.left, rank, depth - 1, part)?;
         let whole = join(nodes, left, node.entry, node.right)?;
         return Ok(whole);
     }
     if before < rank {
-        let right = put(nodes, node.right, rank - before - 1, depth - 1, part)?;
+        let right = put_part(nodes, node.right, rank - before - 1, depth - 1, part)?;
         let whole = join(nodes, node.left, node.entry, right)?;
         return Ok(whole);
     }
@@ -177,7 +177,7 @@ fn parted_codes(
 }
 
 /// A part as its balanced tree. The item of its rank is new.
-fn balanced_part(nodes: &mut Arena, part: Part) -> Result<Rebuilt, OutOfMemory>
+fn balance_part(nodes: &mut Arena, part: Part) -> Result<Rebuilt, OutOfMemory>
     requires link { IsLink nodes.old part.link }
     requires short { part.path.len + height (tree_of nodes.old part.link) ≤ 63 }
     requires is_rank { part.rank < size (tree_of nodes.old part.link) }
@@ -200,7 +200,7 @@ fn balanced_part(nodes: &mut Arena, part: Part) -> Result<Rebuilt, OutOfMemory>
 }
 
 /// The tree of a link with a part balanced: the one so many steps down on the way to the item of a rank, which is new.
-pub fn settled(
+pub fn balance_below(
     nodes: &mut Arena,
     link: Option<u32>,
     rank: u32,
@@ -218,8 +218,8 @@ pub fn settled(
         rank,
     };
     let part = part_below(nodes, whole, depth);
-    let balanced = balanced_part(nodes, part)?;
-    let root = put(nodes, link, rank, depth, balanced.root)?;
+    let balanced = balance_part(nodes, part)?;
+    let root = put_part(nodes, link, rank, depth, balanced.root)?;
     Ok(Rebuilt {
         root,
         moved: balanced.moved,
@@ -229,7 +229,7 @@ pub fn settled(
 
 /// The tree of a link, whose item of a rank is new and deeper than the limit of `most` items, with the tree of its nearest
 /// ancestor that is too tall for its items balanced.
-pub fn rebalanced(
+pub fn balance_tall_part(
     nodes: &mut Arena,
     link: Option<u32>,
     rank: u32,
@@ -245,6 +245,6 @@ pub fn rebalanced(
     ensures codes { IfOk result (λ rebuilt. IsMovedIn (tree_of nodes.old link) (scapegoat_way (path (tree_of nodes.old link) (Found rank)) (tree_of nodes.old link)) rank rebuilt.moved.items rebuilt.added) }
 {
     let depth = depth_of_tall(nodes, link, rank, most)?;
-    let rebuilt = settled(nodes, link, rank, depth)?;
+    let rebuilt = balance_below(nodes, link, rank, depth)?;
     Ok(rebuilt)
 }

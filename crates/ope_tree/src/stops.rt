@@ -39,7 +39,7 @@ impl Tree {
         ensures stops { StandsAt self.now [] result }
         ensures short { height self.now.column.tree ≤ 63 }
     {
-        stop_of(&self.nodes, self.root)
+        stop_of(&self.nodes, self.shape.root)
     }
 
     /// What stands on one side of a node: `Gap` exactly where nothing does. The name must be that of a node of this tree.

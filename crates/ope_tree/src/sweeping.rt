@@ -1,7 +1,7 @@
 //! The whole tree balanced again without the items that no row has.
 ghost use Rattle.code_changes.specs.Columns.{codes_of};
 ghost use Rattle.ope_tree.specs.Nodes.{IsLink, items_of_entries, tree_of};
-ghost use Rattle.ope_tree.specs.Seen.{column_of};
+ghost use Rattle.ope_tree.specs.Seen.{column_in};
 ghost use Rattle.ope_tree.specs.SweptSum.{swept_sum};
 ghost use Rattle.std.specs.List.{zip};
 ghost use Rattle.std.specs.Prelude.{◌≡◌, ◌^◌, ◌<◌, ◌≤◌, ◌==◌, nat_lt, [], false, true, map, filter, IfOk};
@@ -15,6 +15,7 @@ use crate::change::Change;
 use crate::coding::{all_codes, differing};
 use crate::done::Done;
 use crate::nodes::Entry;
+use crate::shape::Shape;
 use mope_base::OutOfMemory;
 use scapegoat::needs_whole;
 use std::alloc::Global;
@@ -63,21 +64,21 @@ fn codes_without_rows(
     Ok(left)
 }
 
-/// The tree of a link becomes the balanced tree of the items that some row has, which are `alive`.
-fn swept(nodes: &mut Arena, root: Option<u32>, alive: u32) -> Result<Done, OutOfMemory>
-    requires link { IsLink nodes.old root }
-    requires short { height (tree_of nodes.old root) ≤ 63 }
-    requires alive { alive ≡ live (inorder (tree_of nodes.old root)) }
-    ensures link { IfOk result (λ done. IsLink nodes.new done.root) }
-    ensures tree { IfOk result (λ done. tree_of nodes.new done.root ≡ whole (tree_of nodes.old root)) }
-    ensures alive { IfOk result (λ done. done.alive ≡ alive) }
-    ensures most { IfOk result (λ done. done.most ≡ alive) }
-    ensures change { IfOk result (λ done. done.change ≡ swept_sum (tree_of nodes.old root)) }
+/// A tree becomes the balanced tree of its items that some row has.
+fn sweep(nodes: &mut Arena, shape: Shape) -> Result<Done, OutOfMemory>
+    requires link { IsLink nodes.old shape.root }
+    requires short { height (tree_of nodes.old shape.root) ≤ 63 }
+    requires alive { shape.alive ≡ live (inorder (tree_of nodes.old shape.root)) }
+    ensures link { IfOk result (λ done. IsLink nodes.new done.shape.root) }
+    ensures tree { IfOk result (λ done. tree_of nodes.new done.shape.root ≡ whole (tree_of nodes.old shape.root)) }
+    ensures alive { IfOk result (λ done. done.shape.alive ≡ shape.alive) }
+    ensures most { IfOk result (λ done. done.shape.most ≡ shape.alive) }
+    ensures change { IfOk result (λ done. done.change ≡ swept_sum (tree_of nodes.old shape.root)) }
 {
     let alloc = nodes.allocator();
     let mut entries = Vec::new(alloc);
-    collect(nodes, root, &mut entries)?;
-    let before = all_codes(nodes, root)?;
+    collect(nodes, shape.root, &mut entries)?;
+    let before = all_codes(nodes, shape.root)?;
     let stayed = codes_with_rows(alloc, &entries, &before)?;
     let dropped = codes_without_rows(alloc, &entries, &before)?;
     let kept = live_entries(alloc, &entries)?;
@@ -86,40 +87,32 @@ fn swept(nodes: &mut Arena, root: Option<u32>, alive: u32) -> Result<Done, OutOf
     let moved = differing(alloc, &stayed, &after)?;
     let change = Change::of(moved, dropped, Vec::new(alloc));
     Ok(Done {
-        root,
-        alive,
-        most: alive,
+        shape: Shape {
+            root,
+            alive: shape.alive,
+            most: shape.alive,
+        },
         change,
     })
 }
 
-/// The tree of a link, of whose items `alive` have rows, becomes the balanced tree of those where they are too few
-/// against the greatest number of items.
-pub fn pruned(
-    nodes: &mut Arena,
-    root: Option<u32>,
-    alive: u32,
-    most: u32,
-) -> Result<Done, OutOfMemory>
-    requires link { IsLink nodes.old root }
-    requires short { height (tree_of nodes.old root) ≤ 63 }
-    requires alive { alive ≡ live (inorder (tree_of nodes.old root)) }
-    ensures link { IfOk result (λ done. IsLink nodes.new done.root) }
-    ensures column { IfOk result (λ done. column_of nodes.new done.root done.most ≡ pruned (tree_of nodes.old root) most) }
-    ensures alive { IfOk result (λ done. done.alive ≡ live (inorder (tree_of nodes.new done.root))) }
-    ensures few { IfOk result (λ done. done.most < 2 ^ 32) }
-    ensures enough { IfOk result (λ done. is_sparse most (inorder (tree_of nodes.old root)) ≡ false → done.change ≡ record { moved = []; dropped = []; added = [] }) }
-    ensures sparse { IfOk result (λ done. is_sparse most (inorder (tree_of nodes.old root)) ≡ true → done.change ≡ swept_sum (tree_of nodes.old root)) }
+/// A tree becomes the balanced tree of its items that some row has, where they are too few against the greatest number of
+/// items.
+pub fn sweep_if_sparse(nodes: &mut Arena, shape: Shape) -> Result<Done, OutOfMemory>
+    requires link { IsLink nodes.old shape.root }
+    requires short { height (tree_of nodes.old shape.root) ≤ 63 }
+    requires alive { shape.alive ≡ live (inorder (tree_of nodes.old shape.root)) }
+    ensures link { IfOk result (λ done. IsLink nodes.new done.shape.root) }
+    ensures column { IfOk result (λ done. column_in nodes.new done.shape ≡ pruned (tree_of nodes.old shape.root) shape.most) }
+    ensures alive { IfOk result (λ done. done.shape.alive ≡ live (inorder (tree_of nodes.new done.shape.root))) }
+    ensures few { IfOk result (λ done. done.shape.most < 2 ^ 32) }
+    ensures enough { IfOk result (λ done. is_sparse shape.most (inorder (tree_of nodes.old shape.root)) ≡ false → done.change ≡ record { moved = []; dropped = []; added = [] }) }
+    ensures sparse { IfOk result (λ done. is_sparse shape.most (inorder (tree_of nodes.old shape.root)) ≡ true → done.change ≡ swept_sum (tree_of nodes.old shape.root)) }
 {
-    if needs_whole(u64::from(alive), u64::from(most)) {
-        return swept(nodes, root, alive);
+    if needs_whole(u64::from(shape.alive), u64::from(shape.most)) {
+        return sweep(nodes, shape);
     }
     let alloc = nodes.allocator();
     let change = Change::of(Vec::new(alloc), Vec::new(alloc), Vec::new(alloc));
-    Ok(Done {
-        root,
-        alive,
-        most,
-        change,
-    })
+    Ok(Done { shape, change })
 }

@@ -1,6 +1,6 @@
 //! The tree itself, and its numbers.
-ghost use Rattle.ope_tree.specs.Seen.{empty_seen};
-ghost use Rattle.std.specs.Prelude.{◌≡◌, ◌≤◌, false, true};
+ghost use Rattle.ope_tree.specs.Seen.{IsShape, empty_seen, seen_of};
+ghost use Rattle.std.specs.Prelude.{◌≡◌, ◌≤◌, ◌↔◌, IfOk, IsErr, false, true};
 ghost use Rattle.tree_model.specs.ColumnLaws.{IsKept};
 ghost use Rattle.tree_model.specs.Columns.{items_of};
 ghost use Rattle.tree_model.specs.Items.{live};
@@ -9,8 +9,11 @@ ghost use Rattle.mope_base.specs.declared.body.Body.{Body};
 
 use crate::arena::Arena;
 use crate::building::size_of;
+use crate::shape::Shape;
+use mope_base::OutOfMemory;
 use std::alloc::Global;
 use std::marker::Model;
+use std::mem;
 
 /// A search tree of items, each a sealed value and how many rows have it.
 ///
@@ -19,9 +22,7 @@ use std::marker::Model;
 #[derive(Drop)]
 pub struct Tree {
     pub(crate) nodes: Arena,
-    pub(crate) root: Option<u32>,
-    pub(crate) alive: u32,
-    pub(crate) most: u32,
+    pub(crate) shape: Shape,
     pub(crate) spent: bool,
 }
 
@@ -32,9 +33,9 @@ impl Model for Tree {
 
     ghost coded = { seen_code };
 
-    ghost view = { λ t. seen_of t.nodes t.root t.most t.spent };
+    ghost view = { λ t. seen_of t.nodes t.shape.root t.shape.most t.spent };
 
-    ghost invariant = { λ t. IsSound t.nodes t.root t.alive t.most t.spent };
+    ghost invariant = { λ t. IsSound t.nodes t.shape.root t.shape.alive t.shape.most t.spent };
 }
 
 impl Tree {
@@ -42,13 +43,7 @@ impl Tree {
     pub fn new(alloc: Global) -> Tree
         ensures { result ≡ empty_seen false }
     {
-        Tree {
-            nodes: Arena::new(alloc),
-            root: None,
-            alive: 0,
-            most: 0,
-            spent: false,
-        }
+        Tree::empty(alloc, false)
     }
 
     /// How many items it has.
@@ -57,33 +52,63 @@ impl Tree {
         ensures kept { IsKept Body self.now.column }
         ensures short { height self.now.column.tree ≤ 63 }
     {
-        size_of(&self.nodes, self.root)
+        size_of(&self.nodes, self.shape.root)
     }
 
     /// How many items have rows.
     pub fn live(&self) -> u32
         ensures { result ≡ live (items_of self.now.column) }
     {
-        self.alive
+        self.shape.alive
     }
 
     /// The greatest number of items since the whole tree was last balanced.
     pub fn max(&self) -> u32
         ensures { result ≡ self.now.column.most }
     {
-        self.most
+        self.shape.most
     }
 
-    /// What is left after want of memory.
-    pub(crate) fn gone(alloc: Global) -> Tree
-        ensures { result ≡ empty_seen true }
+    // No items, and whether it is spent.
+    fn empty(alloc: Global, spent: bool) -> Tree
+        ensures { result ≡ empty_seen spent }
     {
         Tree {
             nodes: Arena::new(alloc),
-            root: None,
-            alive: 0,
-            most: 0,
-            spent: true,
+            shape: Shape {
+                root: None,
+                alive: 0,
+                most: 0,
+            },
+            spent,
         }
+    }
+
+    /// The tree of a shape over these nodes.
+    pub(crate) fn of(nodes: Arena, shape: Shape) -> Tree
+        requires { IsShape nodes shape }
+        ensures { result ≡ seen_of nodes shape.root shape.most false }
+    {
+        Tree {
+            nodes,
+            shape,
+            spent: false,
+        }
+    }
+
+    /// Takes the nodes and the shape out for an operation, and leaves what is to stay if that wants memory: a spent tree. It
+    /// answers `OutOfMemory` exactly where the tree is spent.
+    pub(crate) fn take(&mut self) -> Result<(Arena, Shape), OutOfMemory>
+        ensures shape { IfOk result (λ taken. IsShape taken.0 taken.1) }
+        ensures seen { IfOk result (λ taken. seen_of taken.0 taken.1.root taken.1.most false ≡ self.old) }
+        ensures refused { IsErr result ↔ (self.old.spent ≡ true) }
+        ensures left { self.new ≡ empty_seen true }
+    {
+        let alloc = self.nodes.allocator();
+        let tree = mem::replace(self, Tree::empty(alloc, true));
+        if tree.spent {
+            return Err(OutOfMemory);
+        }
+        Ok((tree.nodes, tree.shape))
     }
 }

@@ -64,3 +64,12 @@ fn a_copy_stays_as_it_is(rt: HostRuntime) -> Result<(), OutOfMemory> {
     assert_eq!(rt; copy.item(2), tree.item(2));
     Ok(())
 }
+
+fn crosses_threads<T: Send + Sync>(_value: &T) {}
+
+/// A tree may go to other threads, and be shared with them.
+#[test]
+fn sent_and_shared(rt: HostRuntime) {
+    let tree = Tree::new(rt.alloc());
+    crosses_threads(&tree);
+}

@@ -6,5 +6,5 @@ use Rattle.ope_tree.proofs.arena.Arena.new.Goals as goal
 pub invariant_of-result : goal.invariant_of-result
 unfolding Fits
 invariant_of-result c =
-    let P : List Node → Type 0 = λ items. Fits (reverse items) in
-    subst P (sym c.new.ensures.items) tt
+    let P : List Node → Type 0 = λ nodes. Fits (reverse nodes) in
+    subst P (sym c.new.ensures) tt

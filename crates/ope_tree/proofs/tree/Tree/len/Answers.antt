@@ -7,4 +7,4 @@ use Rattle.ope_tree.proofs.tree.Tree.len.Goals as goal
 pub returns-clause-short : goal.returns-clause-short
 returns-clause-short c =
     let P : Seen → Type 0 = λ seen. height seen.column.tree ≤ 63 in
-    subst P c.self.view_is (sound_short c.self.inside.nodes c.self.inside.root c.self.inside.alive c.self.inside.most c.self.inside.spent c.self.invariant)
+    subst P c.self.view_is (sound_short c.self.inside.nodes c.self.inside.shape.root c.self.inside.shape.alive c.self.inside.shape.most c.self.inside.spent c.self.invariant)

@@ -1,42 +1,50 @@
 use Rattle.std.proofs.Common.{◌≤◌, [], ◌∷◌, true, false, ap, ◌∙◌, sym, subst}
 use Rattle.tree_model.specs.Columns.{Lay}
 use Rattle.tree_model.specs.ColumnLaws.{SuitsMode}
-use Rattle.path_code.specs.Sums.{sum_of}
 use Rattle.tree_model.specs.Trees.{height}
-use Rattle.ope_tree.specs.Seen.{Seen, column_of, seen_of}
+use Rattle.path_code.specs.Sums.{sum_of}
+use Rattle.ope_tree.specs.Seen.{Seen, column_of}
 use Rattle.ope_tree.proofs.Sound.{sound_short}
+use Rattle.ope_tree.proofs.Spent.{kept_spent, short_spent}
 use Rattle.ope_tree.proofs.EitherMode.{lay_sum, suits_laid, suits_empty}
-use Rattle.ope_tree.proofs.Spent.{spent_is_empty}
 use Rattle.ope_tree.proofs.tree.Tree.rebuild.Goals as goal
 
-pub returns-then-self-clause-spent : goal.returns-then-self-clause-spent
-returns-then-self-clause-spent c = sym c.self.view_is ∙ spent_is_empty c.self.inside.nodes c.self.inside.root c.self.inside.alive c.self.inside.most c.self.inside.spent c.self.invariant c.if-self.true
+pub returns-in_err-nodes-clause-kept : goal.returns-in_err-nodes-clause-kept
+returns-in_err-nodes-clause-kept c = kept_spent c.take.new.self c.take.ensures.left
 
-pub returns-then-self-clause-short : goal.returns-then-self-clause-short
-returns-then-self-clause-short c =
-    let short = sound_short c.self.inside.nodes c.self.inside.root c.self.inside.alive c.self.inside.most c.self.inside.spent c.self.invariant in
-    subst (λ (t : Seen). height t.column.tree ≤ 63) c.self.view_is short
+pub returns-in_err-nodes-clause-suits : goal.returns-in_err-nodes-clause-suits
+returns-in_err-nodes-clause-suits c = λ same_time _. suits_empty same_time true c.take.new.self c.take.ensures.left
 
-pub returns-in-Ok-clause-short : goal.returns-in-Ok-clause-short
-returns-in-Ok-clause-short c = sound_short c.laid.new.nodes c.in-Ok.done.root c.in-Ok.done.alive c.in-Ok.done.most false c.in-Ok.ensures.sound
+pub returns-in_err-nodes-clause-short : goal.returns-in_err-nodes-clause-short
+returns-in_err-nodes-clause-short c = short_spent c.take.new.self c.take.ensures.left
 
-pub returns-in-Err-clause-short : goal.returns-in-Err-clause-short
-returns-in-Err-clause-short c = sound_short c.drop.inside.nodes c.drop.inside.root c.drop.inside.alive c.drop.inside.most c.drop.inside.spent c.drop.invariant
+pub returns-in_err-done-clause-kept : goal.returns-in_err-done-clause-kept
+returns-in_err-done-clause-kept c = kept_spent c.take.new.self c.take.ensures.left
 
-pub returns-in-Ok-clause-change : goal.returns-in-Ok-clause-change
-returns-in-Ok-clause-change c = λ same_time.
-    let t = c.self.inside in
-    c.in-Ok.ensures.change
-    ∙ lay_sum same_time (column_of t.nodes t.root t.most)
-    ∙ ap (λ (seen : Seen). sum_of same_time (Lay ∷ []) seen.column) c.self.view_is
+pub returns-in_err-done-clause-suits : goal.returns-in_err-done-clause-suits
+returns-in_err-done-clause-suits c = λ same_time _. suits_empty same_time true c.take.new.self c.take.ensures.left
 
-pub returns-in-Ok-clause-suits : goal.returns-in-Ok-clause-suits
-returns-in-Ok-clause-suits c = λ same_time suits.
-    let t = c.self.inside in
-    suits_laid same_time (column_of t.nodes t.root t.most) (column_of c.laid.new.nodes c.in-Ok.done.root c.in-Ok.done.most) c.in-Ok.ensures.column
-    (subst (λ (seen : Seen). SuitsMode same_time seen.column) (sym c.self.view_is) suits)
+pub returns-in_err-done-clause-short : goal.returns-in_err-done-clause-short
+returns-in_err-done-clause-short c = short_spent c.take.new.self c.take.ensures.left
 
-pub returns-in-Err-clause-suits : goal.returns-in-Err-clause-suits
-returns-in-Err-clause-suits c = λ same_time _.
-    let gone = c.drop.inside in
-    suits_empty same_time true (seen_of gone.nodes gone.root gone.most gone.spent) (c.drop.view_is ∙ c.gone.ensures)
+pub returns-clause-change : goal.returns-clause-change
+returns-clause-change c = λ same_time.
+    let t = c.in_ok-nodes in
+    c.in_ok-done.ensures.change
+    ∙ lay_sum same_time (column_of t.nodes t.shape.root t.shape.most)
+    ∙ ap (λ (seen : Seen). sum_of same_time (Lay ∷ []) seen.column) t.ensures.seen
+
+pub returns-clause-suits : goal.returns-clause-suits
+returns-clause-suits c = λ same_time suits.
+    let t = c.in_ok-nodes in
+    let done = c.in_ok-done.done in
+    let P : Seen → Type 0 = λ seen. SuitsMode same_time seen.column in
+    subst P (sym c.of.ensures)
+    (suits_laid same_time (column_of t.nodes t.shape.root t.shape.most) (column_of c.balance_all.new.nodes done.shape.root done.shape.most) c.in_ok-done.ensures.column
+    (subst P (sym t.ensures.seen) suits))
+
+pub returns-clause-short : goal.returns-clause-short
+returns-clause-short c =
+    let done = c.in_ok-done.done in
+    let P : Seen → Type 0 = λ seen. height seen.column.tree ≤ 63 in
+    subst P (sym c.of.ensures) (sound_short c.balance_all.new.nodes done.shape.root done.shape.alive done.shape.most false c.in_ok-done.ensures.sound)

@@ -12,9 +12,9 @@ unfolding tree_at
 returns-clause-stops c =
     let t = c.self.inside in
     let P : Seen → Type 0 = λ seen. StandsAt seen [] c.stop_of.result in
-    subst P c.self.view_is (stands t.nodes t.root t.most t.spent [] t.root c.stop_of.result refl refl c.self.invariant.is_link c.stop_of.ensures)
+    subst P c.self.view_is (stands t.nodes t.shape.root t.shape.most t.spent [] t.shape.root c.stop_of.result refl refl c.self.invariant.is_link c.stop_of.ensures)
 
 pub returns-clause-short : goal.returns-clause-short
 returns-clause-short c =
     let P : Seen → Type 0 = λ seen. height seen.column.tree ≤ 63 in
-    subst P c.self.view_is (sound_short c.self.inside.nodes c.self.inside.root c.self.inside.alive c.self.inside.most c.self.inside.spent c.self.invariant)
+    subst P c.self.view_is (sound_short c.self.inside.nodes c.self.inside.shape.root c.self.inside.shape.alive c.self.inside.shape.most c.self.inside.spent c.self.invariant)

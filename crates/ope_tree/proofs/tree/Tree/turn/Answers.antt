@@ -15,7 +15,7 @@ get-node-requires c =
     let t = c.self.inside in
     let way = c.requires.0 in
     let P : Seen → Type 0 = λ seen. IsNamed seen way c.args.at.0 in
-    named_within t.nodes t.root way c.args.at.0 (subst P (sym c.self.view_is) c.requires.1)
+    named_within t.nodes t.shape.root way c.args.at.0 (subst P (sym c.self.view_is) c.requires.1)
 
 pub returns-in-Left : goal.returns-in-Left
 unfolding child
@@ -27,7 +27,7 @@ returns-in-Left c = λ way named.
     let P : Seen → Type 0 = λ seen. IsNamed seen way at in
     let Q : Seen → Type 0 = λ seen. StandsAt seen (way ++ Left ∷ []) stop in
     let R : Side → Type 0 = λ side. StandsAt c.args.self.now (way ++ side ∷ []) stop in
-    let here = turned t.nodes t.root t.most t.spent way Left at n.left stop (subst P (sym c.self.view_is) named)
+    let here = turned t.nodes t.shape.root t.shape.most t.spent way Left at n.left stop (subst P (sym c.self.view_is) named)
     (ap (λ (u : Tree ℕ). child Left u) c.get-node.ensures.names) (ap (λ (u : Tree (Item Body)). child Left u) c.get-node.ensures.tree) c.get-node.ensures.left c.stop_of.ensures in
     subst R (sym c.in-Left.is) (subst Q c.self.view_is here)
 
@@ -41,6 +41,6 @@ returns-in-Right c = λ way named.
     let P : Seen → Type 0 = λ seen. IsNamed seen way at in
     let Q : Seen → Type 0 = λ seen. StandsAt seen (way ++ Right ∷ []) stop in
     let R : Side → Type 0 = λ side. StandsAt c.args.self.now (way ++ side ∷ []) stop in
-    let here = turned t.nodes t.root t.most t.spent way Right at n.right stop (subst P (sym c.self.view_is) named)
+    let here = turned t.nodes t.shape.root t.shape.most t.spent way Right at n.right stop (subst P (sym c.self.view_is) named)
     (ap (λ (u : Tree ℕ). child Right u) c.get-node.ensures.names) (ap (λ (u : Tree (Item Body)). child Right u) c.get-node.ensures.tree) c.get-node.ensures.right c.stop_of-in-Right.ensures in
     subst R (sym c.in-Right.is) (subst Q c.self.view_is here)

@@ -1,0 +1,5 @@
+use Rattle.ope_tree.specs.Nodes.{reach}
+use Rattle.ope_tree.proofs.removing.+remove_first.Given as goal
+
+abbrev pub decreases-remove_first : goal.decreases-remove_first
+decreases-remove_first l = reach l.left

@@ -1,5 +1,6 @@
 //! The reader of a workload's file.
 ghost use Rattle.std.specs.Prelude.{◌≡◌, IfOk, IfErr};
+ghost use Rattle.workload.specs.Validity.{IsValid};
 ghost use Rattle.workload_file.specs.Steps.{start};
 ghost use Rattle.workload_file.specs.WorkloadFile.{IsWorkloadFile, IsRefusal, IsToldBy, Leads, ended_at, NextLine, lines_of};
 
@@ -19,6 +20,7 @@ const BYTES_MOST: usize = 67108864;
 /// are skipped, and counted. The others are the header, the tables, the sessions with their statements, and END.
 pub fn read_workload(alloc: Global, bytes: &[u8]) -> Result<Workload, FileStop>
     ensures read { IfOk result (λ w. IsWorkloadFile bytes.now w) }
+    ensures valid { IfOk result (λ w. IsValid w) }
     ensures fault { IfErr result (λ stop. IsRefusal bytes.now stop) }
 {
     if bytes.len() > BYTES_MOST {

@@ -15,7 +15,7 @@ mod PrintedFront
 mod PrintedTokens
 mod PrintedLines
 mod PrintedBytes
-mod PrintedLexed
+pub mod PrintedLexed
 mod PrintedStyles
 pub mod FrameRuns
 pub mod FrameVerdicts

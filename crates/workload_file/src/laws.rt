@@ -1,0 +1,13 @@
+//! Laws of files. Each function is empty: its contract is the law.
+ghost use Rattle.workload_file.specs.Theorems.{FilesGiveOneVerdict, WorkloadsReadAreValid};
+
+/// The bytes of a file give one verdict at most: one workload, or one line with one reason.
+pub fn files_give_one_verdict()
+    ensures { FilesGiveOneVerdict }
+{}
+
+/// A workload that is read from a file is valid: its names are names and differ, its tables, columns, sessions and
+/// lists are within their limits, and its statements are about tables and columns that it declares.
+pub fn workloads_read_are_valid()
+    ensures { WorkloadsReadAreValid }
+{}

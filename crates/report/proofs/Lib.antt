@@ -1,0 +1,4 @@
+pub mod Appends
+pub mod RowLines
+pub mod HistoryOrder
+pub mod ReportLaws

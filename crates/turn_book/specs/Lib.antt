@@ -1,0 +1,4 @@
+pub mod Accounts
+pub mod Protocol
+pub mod Passes
+pub mod Places

@@ -1,0 +1,1 @@
+//! A log of entries that passes add to in turn.

@@ -1,8 +1,8 @@
 -- A pass and a book, as contracts see them.
 use Rattle.std.specs.Prelude.{ℕ, ◌≡◌, ◌<◌, ◌≤◌, ◌⊎◌, Bool, true, false, List, [], ◌∷◌, Option, Some, None}
-use Rattle.atomic_table.specs.Seated.{TableId}
 use Rattle.atomic_table.specs.Table.{Me}
-use Rattle.atomic_table.specs.declared.shared.Seat.{Seat}
+use Rattle.turn_book.specs.declared.pass.Book.{Book}
+use Rattle.turn_book.specs.declared.pass.Pass.{Pass}
 use Rattle.turn_book.specs.declared.view.View.{View}
 use Rattle.turn_book.specs.declared.view.Stage.{Stage}
 use Rattle.turn_book.specs.declared.view.Stage.TheVariants.{Idle, Waits, Turn, Spent}
@@ -37,12 +37,18 @@ module _ {I O : Type 0} where
   IsSamePass v w = (w.number ≡ v.number) × (w.origin ≡ v.origin) × (w.ended ≡ v.ended) × (w.stock_from ≡ v.stock_from) × (w.stock_to ≡ v.stock_to)
 
 module _ {T I O : Type 0} where
-  -- the pass is one of the book with this table, and rests between two calls
-  abbrev pub IsAt : TableId → Seat (Option T) (View I O) → Type 0
-  IsAt table p = (p.table_id ≡ table) × AtRest p.me
+  -- how many passes the book may have
+  abbrev pub passes_in : Book T I O → ℕ
+  passes_in b = b.table.shared.key.passes
 
-  abbrev pub known_by : Seat (Option T) (View I O) → View I O
-  known_by p = p.me.0
+  -- what the pass knows
+  abbrev pub known_by : Pass T I O → View I O
+  known_by p = p.seat.me.0
 
-  abbrev pub holds_value : Seat (Option T) (View I O) → Bool
-  holds_value p = has_turn p.me.0.stage
+  -- the value is out with this pass
+  abbrev pub holds_value : Pass T I O → Bool
+  holds_value p = has_turn p.seat.me.0.stage
+
+  -- the pass is one of this book
+  abbrev pub IsPassOf : Book T I O → Pass T I O → Type 0
+  IsPassOf b p = (p.seat.table_id ≡ b.table.shared.table_id) × AtRest p.seat.me

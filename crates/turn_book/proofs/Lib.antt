@@ -4,3 +4,4 @@ pub mod Turning
 pub mod Parting
 pub mod Ends
 pub mod Calls
+pub mod Covering

@@ -2,3 +2,4 @@ pub mod Accounts
 pub mod Protocol
 pub mod Passes
 pub mod Places
+pub mod Covering

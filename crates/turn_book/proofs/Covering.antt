@@ -35,3 +35,16 @@ module _ {I O : Type 0} where
   pub two_have_all : (p : ℕ) (v : View I O) (m : ℕ) (es fs : List (ℕ × List I)) (x : List I) → p ≡ 2 → v.number ≡ 0 → m ≡ 1 → v.ended ≡ es ++ (m, x) ∷ fs → HasAll p v
   two_have_all p v m es fs x two own other is n less = dite (ℕ_discrete n 0) (λ z. inl (omega arith))
       (λ nz. let here : m ≡ n = omega (arith, nz) in inr (inl (subst (HasNumber n) (sym is) (has_right n es ((m, x) ∷ fs) (inl here)))))
+
+  pub covers_at : (v : View I O) (k : ℕ) → v.number ≡ k → Covers v.number v.ended k (k + 1)
+  covers_at v k own n low high = inl (omega arith)
+
+  -- two that are joined cover what either did
+  pub covers_both : (v w u : View I O) (from mid mid' to to' : ℕ) → mid ≡ mid' → to' ≡ to → u.number ≡ v.number → u.ended ≡ v.ended ++ (w.number, w.mine) ∷ w.ended
+      → Covers v.number v.ended from mid → Covers w.number w.ended mid' to' → Covers u.number u.ended from to
+  covers_both v w u from mid mid' to to' same_mid same_to own is here there = subst (λ (z : ℕ × List (ℕ × List I)). Covers z.0 z.1 from to) (λ i. (sym own i, sym is i))
+      (subst (λ (k : ℕ). Covers v.number (v.ended ++ (w.number, w.mine) ∷ w.ended) from k) same_to
+      (covers_joined v.number w.number from mid' to' v.ended w.ended w.mine (subst (Covers v.number v.ended from) same_mid here) there))
+
+  pub covered_all : (p q : ℕ) (v : View I O) → p ≡ q → Covers v.number v.ended 0 q → HasAll p v
+  covered_all p q v same covers = all_covered p v (subst (Covers v.number v.ended 0) (sym same) covers)

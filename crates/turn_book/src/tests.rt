@@ -1,7 +1,7 @@
 //! A log to which threads add in turn.
 ghost use Rattle.std.specs.Prelude.{◌≡◌, ◌+◌, ◌<◌, ◌⊎◌, false, [], ◌∷◌, ◌++◌};
 ghost use denote.Param.Send.{IsSync};
-ghost use Rattle.turn_book.specs.Covering.{Covers};
+ghost use Rattle.turn_book.specs.Covering.{Covers, StaysRoot};
 ghost use Rattle.turn_book.specs.Passes.{IsPassOf, IsSamePass, known_by, holds_value, passes_in};
 
 use super::*;
@@ -141,5 +141,73 @@ fn two_threads_of_a_thousand_items_each(rt: HostRuntime) -> Result<(), Fail> {
     assert_eq!(rt; log.entries.len(), 2000);
     assert_eq!(rt; log.in_order(0), 1000);
     assert_eq!(rt; log.in_order(1), 1000);
+    Ok(())
+}
+
+// A new pass with this number, which has taken one turn.
+fn leaf<R: Wait>(rt: &R, book: &Book<Log>, root: &mut Pass<Log>, number: u32) -> Pass<Log>
+    requires root { IsPassOf book.now root.old × (holds_value root.old ≡ false) }
+    requires stock { ((known_by root.old).stock_from ≡ number) × (number < (known_by root.old).stock_to) }
+    ensures root { IsPassOf book.now root.new × (holds_value root.new ≡ false) }
+    ensures stock { ((known_by root.new).stock_from ≡ number + 1) × StaysRoot (known_by root.old) (known_by root.new) }
+    ensures pass { IsPassOf book.now result × (holds_value result ≡ false) }
+    ensures covers { Covers (known_by result).number (known_by result).ended number (number + 1) }
+{
+    let mut pass = book.split(root);
+    add(rt, book, &mut pass, Entry { by: number, place: 0 });
+    pass
+}
+
+// Two such passes, joined.
+fn two_leaves<R: Wait>(rt: &R, book: &Book<Log>, root: &mut Pass<Log>, number: u32) -> Pass<Log>
+    requires root { IsPassOf book.now root.old × (holds_value root.old ≡ false) }
+    requires stock { ((known_by root.old).stock_from ≡ number) × (number + 1 < (known_by root.old).stock_to) × (number < 100) }
+    ensures root { IsPassOf book.now root.new × (holds_value root.new ≡ false) }
+    ensures stock { ((known_by root.new).stock_from ≡ number + 2) × StaysRoot (known_by root.old) (known_by root.new) }
+    ensures pass { IsPassOf book.now result × (holds_value result ≡ false) }
+    ensures covers { Covers (known_by result).number (known_by result).ended number (number + 2) }
+{
+    let mut left = leaf(rt, book, root, number);
+    let right = leaf(rt, book, root, number + 1);
+    book.join(&mut left, right);
+    left
+}
+
+// Four such passes, joined by two.
+fn four_leaves<R: Wait>(rt: &R, book: &Book<Log>, root: &mut Pass<Log>, number: u32) -> Pass<Log>
+    requires root { IsPassOf book.now root.old × (holds_value root.old ≡ false) }
+    requires stock { ((known_by root.old).stock_from ≡ number) × (number + 3 < (known_by root.old).stock_to) × (number < 50) }
+    ensures root { IsPassOf book.now root.new × (holds_value root.new ≡ false) }
+    ensures stock { ((known_by root.new).stock_from ≡ number + 4) × StaysRoot (known_by root.old) (known_by root.new) }
+    ensures pass { IsPassOf book.now result × (holds_value result ≡ false) }
+    ensures covers { Covers (known_by result).number (known_by result).ended number (number + 4) }
+{
+    let mut left = two_leaves(rt, book, root, number);
+    let right = two_leaves(rt, book, root, number + 2);
+    book.join(&mut left, right);
+    left
+}
+
+// A log of eight passes with one turn each: the first, and a tree of one, two and four.
+fn by_eight<R: Wait>(rt: &R, alloc: Global) -> Result<Log, OutOfMemory> {
+    let (book, mut root) = Book::start(alloc, Log::new(alloc), 8)?;
+    let one = leaf(rt, &book, &mut root, 1);
+    let two = two_leaves(rt, &book, &mut root, 2);
+    let four = four_leaves(rt, &book, &mut root, 4);
+    add(rt, &book, &mut root, Entry { by: 0, place: 0 });
+    book.join(&mut root, one);
+    book.join(&mut root, two);
+    book.join(&mut root, four);
+    Ok(book.close(root))
+}
+
+#[test]
+fn eight_passes_joined_as_a_tree(rt: HostRuntime) -> Result<(), Fail> {
+    let log = by_eight(&rt, rt.alloc()).ok().ok_or("memory")?;
+    let order = [1, 2, 3, 4, 5, 6, 7, 0];
+    assert_eq!(rt; log.entries.len(), 8);
+    for i in 0..8 {
+        assert_eq!(rt; log.entries[i].by, order[i]);
+    }
     Ok(())
 }

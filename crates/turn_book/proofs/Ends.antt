@@ -1,17 +1,16 @@
 -- The rule holds at the start, and what it says at the end.
-use Rattle.std.proofs.Common.{◌≡◌, ◌≢◌, ◌⊎◌, ℕ, zero, suc, ◌+◌, ◌-◌, ◌<◌, ◌≤◌, eqb, List, [], ◌∷◌, length, Option, Some, None, unwrap_or, true, false, true≢false, sym, refl, ap, ◌∙◌, subst, ⊎_elim, arith, ne_eqb}
+use Rattle.std.proofs.Common.{◌≡◌, ◌≢◌, ℕ, zero, suc, ◌<◌, ◌≤◌, eqb, List, [], ◌∷◌, Option, Some, None, unwrap_or, false, true≢false, sym, refl, ap, ◌∙◌, subst, ⊎_elim, arith, ne_eqb}
 use mathlib.Core.Logic.{dite}
 use mathlib.Core.Option.{some, some-injective, some-ne-none}
 use mathlib.Core.List.{IsPrefix}
-use mathlib.Core.Bool.{Bool}
-use native.Mathlib.Decide.{ℕ_discrete, dec_le}
+use native.Mathlib.Decide.{dec_le}
 use lib.ListN.{get_elem?}
 use Rattle.atomic_table.specs.Table.{State, opening, Final, Seen}
 use Rattle.turn_book.specs.declared.view.View.{View}
 use Rattle.turn_book.specs.declared.view.Stage.{Stage}
 use Rattle.turn_book.specs.declared.view.Stage.TheVariants.{Idle, Waits, Turn, Spent}
 use Rattle.turn_book.specs.Accounts.{items_of, Each, HasNumber}
-use Rattle.turn_book.specs.Protocol.{Fate, stocked, borne, over, chosen, IsLive, tickets_at, tickets_of, passes_of, total, Stands, Knows, shelf, AtHome, Kept, first_view}
+use Rattle.turn_book.specs.Protocol.{Fate, stocked, borne, over, chosen, IsLive, tickets_at, tickets_of, Stands, Knows, shelf, AtHome, Kept, first_view}
 use Rattle.turn_book.specs.Passes.{HasAll, Rests, has_turn}
 use Rattle.turn_book.proofs.Totals.{total_some}
 use Rattle.turn_book.proofs.Histories.{each_map, each_number}
@@ -103,10 +102,10 @@ module _ {T I O : Type 0} (items : T → List I) (origin_of : T → O) (number :
         let home = at_home_there s r id v at idle all r.value r.at_home in let y : T = home.0 in
         let stands = r.live id v at (subst IsLive (sym idle) tt) in
         let others : (n : ℕ) → n ≢ v.number → ¬ (HasNumber n v.ended) → items_of number n r.history ≡ [] = λ n apart gone. dite (dec_le passes n)
-            (λ far. r.beyond n far)
-            (λ near. ⊎_elim (λ (own : n ≡ v.number). absurd (apart own))
-            (λ rest. ⊎_elim (λ (h : HasNumber n v.ended). absurd (gone h)) (λ (left : (v.stock_from ≤ n) × (n < v.stock_to)). (stands.stock n left.0 left.1).1) rest)
-            (all n (omega (arith, near)))) in (
+        (λ far. r.beyond n far)
+        (λ near. ⊎_elim (λ (own : n ≡ v.number). absurd (apart own))
+        (λ rest. ⊎_elim (λ (h : HasNumber n v.ended). absurd (gone h)) (λ (left : (v.stock_from ≤ n) × (n < v.stock_to)). (stands.stock n left.0 left.1).1) rest)
+        (all n (omega (arith, near)))) in (
           y,
           final.4 0 (Some y) (ap (λ hs. get_elem? hs 0) r.home_is ∙ ap (λ (z : Option T). some (shelf z)) home.1),
           (

@@ -1,5 +1,5 @@
 -- The items of one number, beginnings of lists, and facts about each element.
-use Rattle.std.proofs.Common.{◌≡◌, ◌≢◌, ◌⊎◌, ℕ, zero, suc, ◌≤◌, Bool, true, false, eqb, List, [], ◌∷◌, ◌++◌, length, refl, ap, sym, ◌∙◌, ⊎_elim, subst, arith, append_assoc, append-nil, eq-eqb, ne_eqb}
+use Rattle.std.proofs.Common.{◌≡◌, ◌≢◌, ℕ, ◌≤◌, Bool, true, false, eqb, List, [], ◌∷◌, ◌++◌, length, refl, ap, sym, ◌∙◌, ⊎_elim, subst, arith, append_assoc, append-nil, eq-eqb, ne_eqb}
 use mathlib.Core.List.{IsPrefix}
 use Rattle.turn_book.specs.Accounts.{kept, items_of, Each, HasNumber}
 

@@ -1,5 +1,5 @@
 -- Passes are split and joined: their numbers change hands, and the rule stays.
-use Rattle.std.proofs.Common.{◌≡◌, ◌≢◌, ◌⊎◌, ℕ, zero, suc, ◌+◌, ◌-◌, ◌<◌, ◌≤◌, List, [], ◌∷◌, ◌++◌, length, set, Option, Some, None, sym, refl, ap, ◌∙◌, subst, ⊎_elim, arith}
+use Rattle.std.proofs.Common.{◌≡◌, ◌≢◌, ℕ, suc, ◌-◌, ◌<◌, ◌≤◌, List, ◌∷◌, length, set, Option, sym, refl, ap, ◌∙◌, subst, ⊎_elim, arith}
 use mathlib.Core.Option.{some}
 use lib.ListN.{get_elem?}
 use Rattle.atomic_table.specs.Table.{State, Splits, Joins}
@@ -8,7 +8,7 @@ use Rattle.turn_book.specs.declared.view.View.{View}
 use Rattle.turn_book.specs.declared.view.Stage.{Stage}
 use Rattle.turn_book.specs.declared.view.Stage.TheVariants.{Idle}
 use Rattle.turn_book.specs.Accounts.{items_of, Each}
-use Rattle.turn_book.specs.Protocol.{Fate, stocked, borne, over, updated, IsLive, tickets_at, passes_at, tickets_of, passes_of, Stands, Knows, Kept, with_less_stock, split_off, joined, spent_view}
+use Rattle.turn_book.specs.Protocol.{Fate, borne, over, updated, IsLive, tickets_at, passes_at, tickets_of, passes_of, Stands, Knows, Kept, with_less_stock, split_off, joined, spent_view}
 use Rattle.turn_book.proofs.Totals.{total_set, total_snoc, at_end}
 use Rattle.turn_book.proofs.Histories.{each_map, each_append}
 use Rattle.turn_book.proofs.Turning.{kind_of, seat_of, updated_here, updated_else, each_set}

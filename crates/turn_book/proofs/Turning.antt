@@ -1,8 +1,8 @@
 -- Each step of the book keeps its rule.
-use Rattle.std.proofs.Common.{◌≡◌, ◌≢◌, ◌⊎◌, ℕ, zero, suc, ◌+◌, ◌-◌, ◌%◌, ◌^◌, ◌<◌, ◌≤◌, Bool, true, false, eqb, List, [], ◌∷◌, ◌++◌, length, get_or, set, Option, Some, None, unwrap_or, sym, refl, ap, ◌∙◌, subst, inl, inr, ⊎_elim, arith, length-set, eq-eqb, ne_eqb}
+use Rattle.std.proofs.Common.{◌≡◌, ◌≢◌, ℕ, suc, ◌+◌, ◌-◌, ◌%◌, ◌^◌, ◌<◌, ◌≤◌, Bool, List, [], ◌∷◌, ◌++◌, length, get_or, set, Option, Some, None, unwrap_or, sym, refl, ap, ◌∙◌, subst, inl, inr, ⊎_elim, arith, eq-eqb, ne_eqb}
 use Rattle.std.proofs.Math.Nat.{mod-add-mod}
 use mathlib.Core.Logic.{dite}
-use mathlib.Core.Option.{some, some-injective, some-ne-none, none}
+use mathlib.Core.Option.{some, none}
 use mathlib.Core.List.{IsPrefix}
 use native.Mathlib.Decide.{ℕ_discrete, dec_le}
 use lib.ListN.{get_elem?}
@@ -13,7 +13,7 @@ use Rattle.turn_book.specs.declared.view.View.{View}
 use Rattle.turn_book.specs.declared.view.Stage.{Stage}
 use Rattle.turn_book.specs.declared.view.Stage.TheVariants.{Idle, Waits, Turn, Spent}
 use Rattle.turn_book.specs.Accounts.{items_of, Each}
-use Rattle.turn_book.specs.Protocol.{Fate, stocked, borne, over, chosen, updated, IsLive, tickets_at, passes_at, tickets_of, passes_of, total, Stands, Knows, shelf, AtHome, Kept, at_stage, having_seen, having_made, Draws, Gains, Looks, Sees, Counts, PassesOn, Compares, IsLongerOf}
+use Rattle.turn_book.specs.Protocol.{Fate, stocked, borne, over, chosen, updated, IsLive, tickets_at, passes_at, tickets_of, passes_of, Stands, Knows, shelf, AtHome, Kept, at_stage, having_seen, having_made, Draws, Looks, Sees, Counts, PassesOn, Compares}
 use Rattle.turn_book.proofs.Totals.{total_set, total_le}
 use Rattle.turn_book.proofs.Histories.{items_other, each_map, prefix_self, prefix_trans, prefix_shorter}
 
@@ -246,7 +246,7 @@ module _ {T I O : Type 0} (items : T → List I) (origin_of : T → O) (number :
         tt,
         unmoved s r 0 id me.1 v w at refl refl (λ _. reseen number passes r.history r.origin r.fate id v now (subst (λ (l : List I). IsPrefix l r.history) (sym known.2) (prefix_self r.history)) stands) (r.knows id v at),
         (λ t' now' turn'. let e : now ≡ now' = ap now_in (sym turn ∙ turn') in let all : r.history ≡ now' = sym known.2 ∙ e in
-        (ap (λ (l : List I). (having_seen v l, me.1)) e, ap (λ (ws : List ℕ). get_or ws 0 0) r.words_are ∙ ap length all, subst (λ (l : List I). items_of number v.number l ≡ v.mine) all stands.mine)),
+            (ap (λ (l : List I). (having_seen v l, me.1)) e, ap (λ (ws : List ℕ). get_or ws 0 0) r.words_are ∙ ap length all, subst (λ (l : List I). items_of number v.number l ≡ v.mine) all stands.mine)),
       )
 
   pub counts : (slots id t : ℕ) (me : M) (next : List I) (n : ℕ) → me.0.stage ≡ Turn t me.0.seen → (x : I) → next ≡ me.0.seen ++ x ∷ [] → number x ≡ me.0.number → n ≡ length next
@@ -293,7 +293,7 @@ module _ {T I O : Type 0} (items : T → List I) (origin_of : T → O) (number :
               (λ j d other e. knows_beside r.history h r.served r.drawn r.who r.value r.value j (λ same. other (same ∙ known.0)) d.stage (r.knows j d e));
         },
         (λ t' now' turn'. let same : t ≡ t' = ap ticket_in (sym turn ∙ turn') in
-        ap (λ (z : ℕ × List I). (having_made number v z.0 z.1, me.1)) (λ i. (same i, sym is i))),
+            ap (λ (z : ℕ × List I). (having_made number v z.0 z.1, me.1)) (λ i. (same i, sym is i))),
       )
 
   pub passes_on : (slots id t : ℕ) (me : M) (y : T) → me.0.stage ≡ Turn t (items y) → me.0.origin ≡ Some (origin_of y) → me.1 ≡ (0, Some y) ∷ []

@@ -1,5 +1,5 @@
 -- A pass and a book, as contracts see them.
-use Rattle.std.specs.Prelude.{ℕ, ◌≡◌, ◌<◌, ◌≤◌, ◌⊎◌, Bool, true, false, List, [], ◌∷◌, Option, Some, None}
+use Rattle.std.specs.Prelude.{ℕ, ◌≡◌, ◌<◌, ◌≤◌, ◌⊎◌, Bool, true, false, List, [], ◌∷◌, Option, None}
 use Rattle.atomic_table.specs.Table.{Me}
 use Rattle.turn_book.specs.declared.pass.Book.{Book}
 use Rattle.turn_book.specs.declared.pass.Pass.{Pass}

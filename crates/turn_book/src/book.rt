@@ -45,11 +45,7 @@ fn value_of<T: History>(mut closed: Closed<Option<T>, Global>) -> T
 impl<T: History> Book<T> {
     /// A book of a value with an empty history, and its pass with number 0, which can give the numbers from 1 up to
     /// `passes` to others. Want of memory drops the value.
-    pub fn start(
-        alloc: Global,
-        value: T,
-        passes: u32,
-    ) -> Result<(Book<T>, Pass<T>), OutOfMemory>
+    pub fn start(alloc: Global, value: T, passes: u32) -> Result<(Book<T>, Pass<T>), OutOfMemory>
         requires some { 0 < passes }
         requires empty { T.items value ≡ [] }
         ensures passes { IfOk result (λ r. passes_in r.0 ≡ passes) }

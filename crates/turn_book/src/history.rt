@@ -5,6 +5,7 @@ ghost use Rattle.std.specs.Prelude.{◌≡◌, ℕ, List, length};
 /// item changes.
 pub trait History: Drop {
     type Item;
+
     type Origin;
 
     ghost items: { Self → List Self.Item };

@@ -26,6 +26,7 @@ pub struct Log {
 
 impl History for Log {
     type Item = Entry;
+
     type Origin = ();
 
     ghost items = { λ l. l.entries.items };
@@ -154,7 +155,15 @@ fn leaf<R: Wait>(rt: &R, book: &Book<Log>, root: &mut Pass<Log>, number: u32) ->
     ensures covers { Covers (known_by result).number (known_by result).ended number (number + 1) }
 {
     let mut pass = book.split(root);
-    add(rt, book, &mut pass, Entry { by: number, place: 0 });
+    add(
+        rt,
+        book,
+        &mut pass,
+        Entry {
+            by: number,
+            place: 0,
+        },
+    );
     pass
 }
 

@@ -1,4 +1,4 @@
-use Rattle.std.proofs.Common.{rules, ◌≡◌, ◌<◌, ℕ, false, arith, ap, ◌∙◌, sym, slice_index_or, slice_set, get_or-set_same}
+use Rattle.std.proofs.Common.{◌≡◌, false, arith, ap, ◌∙◌, slice_index_or, slice_set, get_or-set_same}
 use Rattle.turn_book.proofs.book.value_of.Goals as goal
 
 pub take-requires : goal.take-requires

@@ -1,4 +1,3 @@
-use Rattle.std.proofs.Common.{rules}
 use Rattle.std.proofs.Common.{ap}
 use Rattle.turn_book.proofs.Calls.{took, held}
 use Rattle.turn_book.proofs.steps.take.Goals as goal

@@ -1,4 +1,4 @@
-use Rattle.std.proofs.Common.{rules, ◌+◌, refl, arith}
+use Rattle.std.proofs.Common.{◌+◌, refl, arith}
 use Rattle.turn_book.specs.Passes.{known_by}
 use Rattle.turn_book.proofs.Covering.{covers_both}
 use Rattle.turn_book.proofs.tests.four_leaves.Goals as goal

@@ -1,4 +1,3 @@
-use Rattle.std.proofs.Common.{rules}
 use Rattle.turn_book.proofs.Ends.{closes, closed_value, idle_at}
 use Rattle.turn_book.proofs.pass.Book.close.Goals as goal
 

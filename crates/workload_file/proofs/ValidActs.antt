@@ -116,9 +116,10 @@ first_columns_below : (n m : ℕ) → n ≤ m → Each (λ (c : ColNo). c.0 < m)
 unfolding first_columns Each
 first_columns_below zero m below = (tt, refl)
 first_columns_below (suc n) m below =
-    let before = first_columns_below n m (omega (arith, below)) in
-    (each_push (λ (c : ColNo). c.0 < m) (first_columns n) (record { 0 = n }) before.0 (omega (arith, below)),
-      length-append (first_columns n) (record { 0 = n } ∷ []) ∙ omega (arith, before.1))
+    let before = first_columns_below n m (omega (arith, below)) in (
+      each_push (λ (c : ColNo). c.0 < m) (first_columns n) (record { 0 = n }) before.0 (omega (arith, below)),
+      length-append (first_columns n) (record { 0 = n } ∷ []) ∙ omega (arith, before.1),
+    )
 
 order_valid : (tables : List Decl) (t : TableNo) (order : Option Order) (found : Option (ColNo × Bool)) → order_in (columns_of tables t) order ≡ Some found → IsOrderColumn tables t found
 unfolding order_in

@@ -1,13 +1,12 @@
 -- What has been read of a file is valid, step by step; so is the workload that the file gives.
-use Rattle.std.proofs.Common.{◌≡◌, ℕ, zero, suc, ◌+◌, ◌*◌, ◌^◌, ◌<◌, ◌≤◌, Bool, true, false, ◌||◌, nat_eq, nat_le, nat_lt, List, [], ◌∷◌, ◌++◌, length, map, get_or, Option, Some, None, Result, Ok, Err, refl, ap, sym, ◌∙◌, subst, arith, if◌then◌else◌}
+use Rattle.std.proofs.Common.{◌≡◌, ℕ, zero, suc, ◌+◌, ◌*◌, ◌^◌, ◌<◌, ◌≤◌, Bool, true, false, ◌||◌, List, [], ◌∷◌, ◌++◌, length, map, get_or, Option, Some, None, Result, Ok, Err, refl, ap, sym, ◌∙◌, subst, arith, if◌then◌else◌}
 use Rattle.std.proofs.lemmas.Bool.{ltb-false, leb-false}
 use Rattle.std.proofs.lemmas.List.Sums.{sum_by-append, sum_by-cons}
 use Rattle.std.proofs.lemmas.List.{length-append, map-append}
-use Rattle.std.specs.Cmp.Lexicographic.{pointwise, other_text}
+use Rattle.std.specs.Cmp.Lexicographic.{other_text}
 use Rattle.std.specs.List.{sum_by}
 use Rattle.std.specs.Result.{IfOk}
 use Rattle.mope_base.specs.Lists.{Each}
-use Rattle.sql_text.specs.Words.{IsName}
 use Rattle.sql_text.specs.declared.Name.{Name}
 use Rattle.sql_text.specs.declared.frames.Frame.{Frame}
 use Rattle.sql_text.specs.declared.frames.Frame.TheVariants as frame

@@ -10,9 +10,9 @@ use Rattle.sql_text.specs.Lexing.{bare}
 use Rattle.sql_text.specs.Words.{is_blank_line}
 use Rattle.sql_text.specs.declared.parsing.Reason.TheVariants.{Syntax}
 use Rattle.sql_text.specs.declared.statements.Stmt.{Stmt}
-use Rattle.workload_file.specs.FileLines.{IsLine, IsFaulty, lines_of, without_return}
+use Rattle.workload_file.specs.FileLines.{IsLine, lines_of, without_return}
 use Rattle.workload_file.specs.Steps.{start, take}
-use Rattle.workload_file.specs.WorkloadFile.{Verdict, NextLine, Goes, Leads, GivesUnless, GivesVerdict, is_too_long, ended_at}
+use Rattle.workload_file.specs.WorkloadFile.{Verdict, NextLine, Goes, Leads, GivesUnless, GivesVerdict, is_too_long}
 use Rattle.workload_file.specs.declared.lines.Line.{Line}
 use Rattle.workload_file.specs.declared.lines.Line.TheVariants.{Blank, Framed, Stated, Faulty}
 use Rattle.workload_file.specs.declared.reader.Reader.{Reader}

@@ -1,5 +1,5 @@
 -- Statements whose tables and columns were numbered are valid.
-use Rattle.std.proofs.Common.{◌≡◌, ℕ, zero, suc, ◌+◌, ◌<◌, ◌≤◌, Bool, true, false, nat_eq, nat_lt, cond, List, [], ◌∷◌, ◌++◌, length, map, get_or, Option, Some, None, Result, Ok, Err, refl, ap, sym, ◌∙◌, subst, arith}
+use Rattle.std.proofs.Common.{◌≡◌, ℕ, zero, suc, ◌<◌, ◌≤◌, Bool, true, false, nat_eq, nat_lt, cond, List, [], ◌∷◌, ◌++◌, length, map, get_or, Option, Some, None, Ok, refl, ap, ◌∙◌, subst, arith}
 use Rattle.std.proofs.lemmas.Bool.{ltb-true, eqb-true}
 use Rattle.std.proofs.lemmas.List.{length-map, length-append}
 use Rattle.std.specs.List.{position, position_or_len}
@@ -22,9 +22,8 @@ use Rattle.workload.specs.declared.script.Piece.TheVariants as piece
 use Rattle.workload.specs.declared.script.Verb.{Verb}
 use Rattle.workload.specs.declared.script.Verb.TheVariants as verb
 use Rattle.workload_file.proofs.ValidLines.{CondsRead, WhatRead}
-use Rattle.workload_file.specs.Naming.{is_same, names_of, all_columns, table_of, columns_of, column_of, place_of}
+use Rattle.workload_file.specs.Naming.{is_same, names_of, table_of, columns_of, column_of, place_of}
 use Rattle.workload_file.specs.Resolving.{both, each_found, columns_in, test_in, tests_in, first_columns, order_in, rows_in, verb_in, bound, inserted, inserted_in, inserted_if, deleted, deleted_in, selected, selected_in, rebuilt, rebuilt_in, rebuild_of}
-use Rattle.workload_file.specs.declared.stops.FileReason.{FileReason}
 
 record Mapped {A B : Type 0} (f : A → B) (o : Option A) (y : B) : Type 0 where
   from : A
@@ -116,9 +115,10 @@ first_columns_below : (n m : ℕ) → n ≤ m → Each (λ (c : ColNo). c.0 < m)
 unfolding first_columns Each
 first_columns_below zero m below = (tt, refl)
 first_columns_below (suc n) m below =
-    let before = first_columns_below n m (omega (arith, below)) in
-    (each_push (λ (c : ColNo). c.0 < m) (first_columns n) (record { 0 = n }) before.0 (omega (arith, below)),
-      length-append (first_columns n) (record { 0 = n } ∷ []) ∙ omega (arith, before.1))
+    let before = first_columns_below n m (omega (arith, below)) in (
+      each_push (λ (c : ColNo). c.0 < m) (first_columns n) (record { 0 = n }) before.0 (omega (arith, below)),
+      length-append (first_columns n) (record { 0 = n } ∷ []) ∙ omega (arith, before.1),
+    )
 
 order_valid : (tables : List Decl) (t : TableNo) (order : Option Order) (found : Option (ColNo × Bool)) → order_in (columns_of tables t) order ≡ Some found → IsOrderColumn tables t found
 unfolding order_in

@@ -1,13 +1,13 @@
 -- What a line that is read has: names that are names, numbers of 64 bits, and lists of at most eight elements.
-use Rattle.std.proofs.Common.{◌≡◌, ℕ, suc, ◌+◌, ◌<◌, ◌≤◌, Bool, true, false, nat_lt, List, [], ◌∷◌, ◌++◌, length, map, Option, Some, None, Result, Ok, Err, refl, ap, sym, ◌∙◌, subst, arith, if◌then◌else◌}
+use Rattle.std.proofs.Common.{◌≡◌, ℕ, ◌<◌, ◌≤◌, Bool, true, false, nat_lt, List, [], ◌∷◌, ◌++◌, length, map, Option, Some, None, refl, subst, arith, if◌then◌else◌}
 use Rattle.std.proofs.lemmas.Bool.{ltb-false}
 use Rattle.std.proofs.lemmas.List.{length-map, append_assoc}
 use Rattle.mope_base.specs.Lists.{Each}
 use Rattle.sql_text.proofs.PrintedLexed.{lexed_are_tokens}
-use Rattle.sql_text.specs.Faults.{Gives, HasTokens}
+use Rattle.sql_text.specs.Faults.{Gives}
 use Rattle.sql_text.specs.FrameLines.{IsFrameLine, frame_tokens}
-use Rattle.sql_text.specs.Grammar.{joined, joined_after, name_tokens, number_tokens, cond_tokens, test_tokens, where_tokens, order_tokens, limit_tokens, end_tokens, spelling, statement_tokens, what_tokens, direction_tokens, HasSome, IsAsked, IsStatement, Style, ninth, ninth_from, ninth_in, first_of, ninth_column}
-use Rattle.sql_text.specs.Lexing.{AreTokens, IsToken, bare}
+use Rattle.sql_text.specs.Grammar.{joined, joined_after, name_tokens, number_tokens, cond_tokens, test_tokens, where_tokens, order_tokens, limit_tokens, end_tokens, spelling, statement_tokens, what_tokens, HasSome, IsAsked, IsStatement, Style, ninth, ninth_from, ninth_in, first_of, ninth_column}
+use Rattle.sql_text.specs.Lexing.{AreTokens}
 use Rattle.sql_text.specs.Words.{IsName}
 use Rattle.sql_text.specs.declared.Name.{Name}
 use Rattle.sql_text.specs.declared.Test.{Test}
@@ -22,7 +22,7 @@ use Rattle.sql_text.specs.declared.statements.Stmt.TheVariants as stmt
 use Rattle.sql_text.specs.declared.statements.What.{What}
 use Rattle.sql_text.specs.declared.statements.What.TheVariants as what
 use Rattle.sql_text.specs.declared.tokens.Token.{Token}
-use Rattle.sql_text.specs.declared.tokens.Token.TheVariants.{Fixed, Named, Number}
+use Rattle.sql_text.specs.declared.tokens.Token.TheVariants.{Fixed, Named}
 use Rattle.workload.specs.Validity.{IsNumber, HasNumbers, IsLimit}
 
 abbrev mark_close : List Token

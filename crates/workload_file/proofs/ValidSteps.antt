@@ -1,13 +1,12 @@
 -- What has been read of a file is valid, step by step; so is the workload that the file gives.
-use Rattle.std.proofs.Common.{◌≡◌, ℕ, zero, suc, ◌+◌, ◌*◌, ◌^◌, ◌<◌, ◌≤◌, Bool, true, false, ◌||◌, nat_eq, nat_le, nat_lt, List, [], ◌∷◌, ◌++◌, length, map, get_or, Option, Some, None, Result, Ok, Err, refl, ap, sym, ◌∙◌, subst, arith, if◌then◌else◌}
+use Rattle.std.proofs.Common.{◌≡◌, ℕ, zero, suc, ◌+◌, ◌*◌, ◌^◌, ◌<◌, ◌≤◌, Bool, true, false, ◌||◌, List, [], ◌∷◌, ◌++◌, length, map, get_or, Option, Some, None, Result, Ok, Err, refl, ap, sym, ◌∙◌, subst, arith, if◌then◌else◌}
 use Rattle.std.proofs.lemmas.Bool.{ltb-false, leb-false}
 use Rattle.std.proofs.lemmas.List.Sums.{sum_by-append, sum_by-cons}
 use Rattle.std.proofs.lemmas.List.{length-append, map-append}
-use Rattle.std.specs.Cmp.Lexicographic.{pointwise, other_text}
+use Rattle.std.specs.Cmp.Lexicographic.{other_text}
 use Rattle.std.specs.List.{sum_by}
 use Rattle.std.specs.Result.{IfOk}
 use Rattle.mope_base.specs.Lists.{Each}
-use Rattle.sql_text.specs.Words.{IsName}
 use Rattle.sql_text.specs.declared.Name.{Name}
 use Rattle.sql_text.specs.declared.frames.Frame.{Frame}
 use Rattle.sql_text.specs.declared.frames.Frame.TheVariants as frame
@@ -81,12 +80,15 @@ unfolding begun Each
 begun_holds tables sessions before n pieces (Some statements) stage h e = absurd (let no : ⊥ = cc in no)
 begun_holds tables sessions before n pieces None stage h e =
     let same : Session pieces (Some []) ≡ stage = cc in
-    subst (λ (s : Stage). StageHolds tables sessions (suc n) s) same (before, record {
-      valid = h.valid;
-      few = omega (arith, h.few);
-      begun = (tt, omega arith);
-      numbers = (let none = sum_none inserted_numbers in omega (arith, none, h.numbers));
-    })
+    subst (λ (s : Stage). StageHolds tables sessions (suc n) s) same (
+      before,
+      record {
+        valid = h.valid;
+        few = omega (arith, h.few);
+        begun = (tt, omega arith);
+        numbers = (let none = sum_none inserted_numbers in omega (arith, none, h.numbers));
+      },
+    )
 
 closed_holds : (tables : List Decl) (sessions : List (List Piece)) (before : Before tables sessions) (n : ℕ) (rollback : Bool) (pieces : List Piece) (unfinished : Option (List Act)) (stage : Stage) → n < 2 ^ 32 → SessionHolds tables n pieces unfinished
     → closed rollback pieces unfinished ≡ Ok stage → StageHolds tables sessions (suc n) stage
@@ -98,12 +100,15 @@ closed_holds tables sessions before n rollback pieces (Some statements) stage bo
     let size : length (pieces ++ done ∷ []) ≡ length pieces + 1 = length-append pieces (done ∷ []) in
     let sum : sum_by numbers_inserted (pieces ++ done ∷ []) ≡ sum_by numbers_inserted pieces + sum_by inserted_numbers statements = sum_push numbers_inserted pieces done in
     let few : length statements ≤ n = h.begun.1 in
-    subst (λ (s : Stage). StageHolds tables sessions (suc n) s) same (before, record {
-      valid = each_push (IsValidPiece tables) pieces done h.valid (h.begun.0, omega (arith, few, bounded));
-      few = omega (arith, size, h.few);
-      begun = tt;
-      numbers = omega (arith, sum, h.numbers);
-    })
+    subst (λ (s : Stage). StageHolds tables sessions (suc n) s) same (
+      before,
+      record {
+        valid = each_push (IsValidPiece tables) pieces done h.valid (h.begun.0, omega (arith, few, bounded));
+        few = omega (arith, size, h.few);
+        begun = tt;
+        numbers = omega (arith, sum, h.numbers);
+      },
+    )
 
 piece_holds : (tables : List Decl) (n : ℕ) (pieces : List Piece) (p : Piece) → SessionHolds tables n pieces None → IsValidPiece tables p → numbers_inserted p ≤ 8
     → SessionHolds tables (suc n) (pieces ++ p ∷ []) None
@@ -144,12 +149,15 @@ act_holds tables sessions before n pieces (Some statements) (Ok a) stage widths 
     let size : length (statements ++ a ∷ []) ≡ length statements + 1 = length-append statements (a ∷ []) in
     let sum : sum_by inserted_numbers (statements ++ a ∷ []) ≡ sum_by inserted_numbers statements + inserted_numbers a = sum_push inserted_numbers statements a in
     let so_far : length statements ≤ n = h.begun.1 in
-    subst (λ (s : Stage). StageHolds tables sessions (suc n) s) same (before, record {
-      valid = h.valid;
-      few = omega (arith, h.few);
-      begun = (each_push (IsValidAct tables) statements a h.begun.0 (valid a refl), omega (arith, size, so_far));
-      numbers = omega (arith, sum, few, h.numbers);
-    })
+    subst (λ (s : Stage). StageHolds tables sessions (suc n) s) same (
+      before,
+      record {
+        valid = h.valid;
+        few = omega (arith, h.few);
+        begun = (each_push (IsValidAct tables) statements a h.begun.0 (valid a refl), omega (arith, size, so_far));
+        numbers = omega (arith, sum, few, h.numbers);
+      },
+    )
 
 stated_holds : (tables : List Decl) (sessions : List (List Piece)) (before : Before tables sessions) (n : ℕ) (pieces : List Piece) (unfinished : Option (List Act)) (s : Stmt) (stage : Stage) → n < 2 ^ 32 → WidthsHold tables → StmtRead s
     → SessionHolds tables n pieces unfinished → stated tables pieces unfinished s ≡ Ok stage → StageHolds tables sessions (suc n) stage

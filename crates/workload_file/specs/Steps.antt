@@ -1,5 +1,5 @@
 -- What has been read of a file, and what one more line makes of it, or the first reason why it may not stand there.
-use Rattle.std.specs.Prelude.{ℕ, ◌+◌, Bool, true, false, nat_le, List, [], ◌∷◌, ◌++◌, length, Option, Some, None, Result, Ok, Err, if◌then◌else◌}
+use Rattle.std.specs.Prelude.{ℕ, Bool, true, false, nat_le, List, [], ◌∷◌, ◌++◌, length, Option, Some, None, Result, Ok, Err, if◌then◌else◌}
 use Rattle.sql_text.specs.declared.frames.Frame.{Frame}
 use Rattle.sql_text.specs.declared.frames.Frame.TheVariants as frame
 use Rattle.sql_text.specs.declared.parsing.Reason.{Reason}

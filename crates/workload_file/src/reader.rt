@@ -104,20 +104,18 @@ fn inside(reason: Reason) -> FileReason
 }
 
 #[tactic(auto, unfolding(crate::specs::Steps::opened))]
-fn opened(
-    tables: Tables,
-    sessions: Items<Items<Piece>>,
-    line: Line,
-) -> Result<Reader, FileReason>
+fn opened(tables: Tables, sessions: Items<Items<Piece>>, line: Line) -> Result<Reader, FileReason>
     ensures { result ≡ opened tables sessions line }
 {
     let stage = match line {
         Line::Blank => Stage::Opening,
         Line::Framed(Frame::Header) => Stage::Declaring,
-        Line::Framed(Frame::Table {
-            name: _name,
-            columns: _columns,
-        }) => return Err(FileReason::Syntax),
+        Line::Framed(
+            Frame::Table {
+                name: _name,
+                columns: _columns,
+            },
+        ) => return Err(FileReason::Syntax),
         Line::Framed(Frame::Session) => return Err(FileReason::Syntax),
         Line::Framed(Frame::End) => return Err(FileReason::Syntax),
         Line::Stated(_statement) => return Err(FileReason::Syntax),
@@ -168,7 +166,11 @@ fn declaring(
 }
 
 #[tactic(auto, unfolding(crate::specs::Steps::begun))]
-fn begun(alloc: Global, pieces: Items<Piece>, unfinished: Option<Items<Act>>) -> Result<Stage, FileReason>
+fn begun(
+    alloc: Global,
+    pieces: Items<Piece>,
+    unfinished: Option<Items<Act>>,
+) -> Result<Stage, FileReason>
     ensures { result ≡ begun pieces unfinished }
 {
     match unfinished {
@@ -195,15 +197,15 @@ fn closed(
 }
 
 /// A session with one transaction more, none being open.
-fn with_piece(
-    pieces: Items<Piece>,
-    piece: Piece,
-) -> Result<Result<Stage, FileReason>, OutOfMemory>
+fn with_piece(pieces: Items<Piece>, piece: Piece) -> Result<Result<Stage, FileReason>, OutOfMemory>
     ensures { IfOk result (λ stage. stage ≡ Ok (Session (pieces ++ piece ∷ []) None)) }
 {
     let mut pieces = pieces;
     pieces.push(piece)?;
-    Ok(Ok(Stage::Session { pieces, unfinished: None }))
+    Ok(Ok(Stage::Session {
+        pieces,
+        unfinished: None,
+    }))
 }
 
 #[tactic(auto, unfolding(crate::specs::Steps::with_rebuild))]
@@ -390,7 +392,9 @@ fn in_session(
             sessions,
             stage: Stage::Session { pieces, unfinished },
         })),
-        Line::Framed(frame) => framed_in_session(alloc, tables, sessions, pieces, unfinished, frame),
+        Line::Framed(frame) => framed_in_session(
+            alloc, tables, sessions, pieces, unfinished, frame,
+        ),
         Line::Stated(statement) => match stated(alloc, &tables, pieces, unfinished, statement)? {
             Ok(stage) => Ok(Ok(Reader {
                 tables,

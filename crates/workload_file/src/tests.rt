@@ -55,25 +55,85 @@ fn every_reason_before_its_neighbour(rt: HostRuntime) {
         ("mope 1\nEND\n\n \t\r\nEND", 5, FileReason::TextAfterEnd),
         ("mope 1\n1a\x01\nEND", 2, FileReason::BadByte),
         ("mope 1\r\r\nEND", 1, FileReason::BadByte),
-        ("mope 1\n01 18446744073709551616\nEND", 2, FileReason::BadToken),
+        (
+            "mope 1\n01 18446744073709551616\nEND",
+            2,
+            FileReason::BadToken,
+        ),
         ("mope 1\nSESSION\n'\nEND", 3, FileReason::BadToken),
         ("18446744073709551616", 1, FileReason::TooLarge),
-        ("mope 1\n\nTABLE 18446744073709551616", 3, FileReason::TooLarge),
+        (
+            "mope 1\n\nTABLE 18446744073709551616",
+            3,
+            FileReason::TooLarge,
+        ),
         ("mope 2\nEND", 1, FileReason::Syntax),
-        ("mope 1\nSESSION\nTABLE t (a,a,c,d,e,f,g,h,i)\nEND", 3, FileReason::Syntax),
-        ("mope 1\nSELECT a,b,c,d,e,f,g,h,i FROM t\nEND", 2, FileReason::Syntax),
-        ("mope 1\nTABLE t (a,a,c,d,e,f,g,h,i)\nEND", 2, FileReason::TooMany),
-        ("mope 1\nSESSION\nSELECT a,b,c,d,e,f,g,h,i FROM t\nEND", 3, FileReason::TooMany),
+        (
+            "mope 1\nSESSION\nTABLE t (a,a,c,d,e,f,g,h,i)\nEND",
+            3,
+            FileReason::Syntax,
+        ),
+        (
+            "mope 1\nSELECT a,b,c,d,e,f,g,h,i FROM t\nEND",
+            2,
+            FileReason::Syntax,
+        ),
+        (
+            "mope 1\nTABLE t (a,a,c,d,e,f,g,h,i)\nEND",
+            2,
+            FileReason::TooMany,
+        ),
+        (
+            "mope 1\nSESSION\nSELECT a,b,c,d,e,f,g,h,i FROM t\nEND",
+            3,
+            FileReason::TooMany,
+        ),
         ("mope 1\nTABLE t (a,b,a)\nEND", 2, FileReason::RepeatedName),
-        ("mope 1\nTABLE t (a)\nTABLE t (b)\nEND", 3, FileReason::RepeatedName),
-        ("mope 1\nSESSION\nSELECT x FROM t\nEND", 3, FileReason::UnknownTable),
-        ("mope 1\nTABLE t (a)\nSESSION\nINSERT INTO T VALUES (1,2)\nEND", 4, FileReason::UnknownTable),
-        ("mope 1\nTABLE t (a)\nSESSION\nBEGIN\nREBUILD t (b)\nEND", 5, FileReason::UnknownColumn),
-        ("mope 1\nTABLE t (a)\nSESSION\nDELETE FROM t WHERE b = 1\nEND", 4, FileReason::UnknownColumn),
-        ("mope 1\nTABLE t (a, b)\nSESSION\nINSERT INTO t VALUES (1)\nEND", 4, FileReason::WrongWidth),
-        ("mope 1\nTABLE t (a)\nSESSION\nBEGIN\nINSERT INTO t VALUES (1,1)\nEND", 5, FileReason::WrongWidth),
-        ("mope 1\nTABLE t (a)\nSESSION\nBEGIN\nREBUILD t (a)\nEND", 5, FileReason::Transaction),
-        ("mope 1\nSESSION\nBEGIN\nSESSION\nEND", 4, FileReason::Transaction),
+        (
+            "mope 1\nTABLE t (a)\nTABLE t (b)\nEND",
+            3,
+            FileReason::RepeatedName,
+        ),
+        (
+            "mope 1\nSESSION\nSELECT x FROM t\nEND",
+            3,
+            FileReason::UnknownTable,
+        ),
+        (
+            "mope 1\nTABLE t (a)\nSESSION\nINSERT INTO T VALUES (1,2)\nEND",
+            4,
+            FileReason::UnknownTable,
+        ),
+        (
+            "mope 1\nTABLE t (a)\nSESSION\nBEGIN\nREBUILD t (b)\nEND",
+            5,
+            FileReason::UnknownColumn,
+        ),
+        (
+            "mope 1\nTABLE t (a)\nSESSION\nDELETE FROM t WHERE b = 1\nEND",
+            4,
+            FileReason::UnknownColumn,
+        ),
+        (
+            "mope 1\nTABLE t (a, b)\nSESSION\nINSERT INTO t VALUES (1)\nEND",
+            4,
+            FileReason::WrongWidth,
+        ),
+        (
+            "mope 1\nTABLE t (a)\nSESSION\nBEGIN\nINSERT INTO t VALUES (1,1)\nEND",
+            5,
+            FileReason::WrongWidth,
+        ),
+        (
+            "mope 1\nTABLE t (a)\nSESSION\nBEGIN\nREBUILD t (a)\nEND",
+            5,
+            FileReason::Transaction,
+        ),
+        (
+            "mope 1\nSESSION\nBEGIN\nSESSION\nEND",
+            4,
+            FileReason::Transaction,
+        ),
         ("", 1, FileReason::NoEnd),
         ("mope 1\nSESSION\nBEGIN\n", 4, FileReason::NoEnd),
     ] {
@@ -117,6 +177,7 @@ fn three_hundred_thousand_lines(rt: HostRuntime) -> Result<(), Fail> {
     let front = "mope 1\nTABLE t (a)\nSESSION\n";
     let file = repeated(alloc, front, "INSERT INTO t VALUES (1)\n", 300_000)?;
     let w = read_workload(alloc, &file).expect(&rt, "a workload");
-    assert_eq!(rt; w.sessions.as_slice()[0].as_slice().len(), 300_000);
+    let session = w.sessions.as_slice().first().expect(&rt, "a session");
+    assert_eq!(rt; session.as_slice().len(), 300_000);
     Ok(())
 }

@@ -1,4 +1,4 @@
-use Rattle.std.proofs.Common.{◌≡◌, sym, ◌∙◌}
+use Rattle.std.proofs.Common.{sym, ◌∙◌}
 use Rattle.workload_file.proofs.NamingLemmas.{keys_fit, names_added, new_found, not_false, not_true, old_found, stands_key}
 use Rattle.workload_file.proofs.names.with_one.Goals as goal
 

@@ -1,4 +1,4 @@
-use Rattle.std.proofs.Common.{ℕ, ◌+◌, ◌≤◌, length}
+use Rattle.std.proofs.Common.{◌+◌, ◌≤◌, length}
 use Rattle.workload_file.specs.Steps.{start}
 use Rattle.workload_file.specs.WorkloadFile.{Verdict, Leads, lines_of}
 use Rattle.workload_file.proofs.reading.read_lines.Given as goal

@@ -1,4 +1,4 @@
-use Rattle.std.proofs.Common.{◌∙◌, length}
+use Rattle.std.proofs.Common.{◌∙◌}
 use Rattle.workload_file.proofs.NamingLemmas.{count_names, few_names}
 use Rattle.workload_file.proofs.names.Names.len.Goals as goal
 

@@ -1,0 +1,5 @@
+pub mod UseLemmas
+pub mod WordLemmas
+pub mod RuleLemmas
+pub mod StepLemmas
+pub mod WalkLemmas

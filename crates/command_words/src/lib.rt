@@ -1,0 +1,7 @@
+//! The words of the command line: which are right, and what they order.
+#![tactic(auto)]
+
+pub mod laws;
+mod order;
+
+pub use order::Order;

@@ -3,3 +3,5 @@ pub mod WordLemmas
 pub mod RuleLemmas
 pub mod StepLemmas
 pub mod WalkLemmas
+pub mod ProgramLemmas
+pub mod OrderLemmas

@@ -16,6 +16,7 @@ use Rattle.clap.specs.declared.error.kind.ErrorKind.TheVariants as kind
 use Rattle.clap.specs.declared.parser.matches.ValueSource.TheVariants.{CommandLine}
 use Rattle.clap.proofs.WalkLemmas.{find-map, list_any-map}
 use Rattle.command_words.specs.Grammar.{Known, Text, Use, command_name, distinct, find_known, has}
+use Rattle.command_words.specs.Giving.{row_for, rows_for, values_listed}
 use Rattle.command_words.proofs.UseLemmas.{repeats, stays_distinct}
 
 -- ---- the rules
@@ -103,22 +104,6 @@ id_found known name k free e =
         absurd (true≢false (sym (ap is_some (sym free ∙ (ap (find_known known) is ∙ own)))))
 
 -- ---- rows
-
-abbrev pub values_listed : Option Text → List Text
-values_listed None = []
-values_listed (Some v) = v ∷ []
-
-abbrev pub row_for : Use → Row
-row_for u = record {
-  id = u.0;
-  values = values_listed u.1;
-  count = None;
-  source = Some CommandLine;
-  reading = AsWritten;
-}
-
-abbrev pub rows_for : List Use → List Row
-rows_for = map row_for
 
 pub row_stands : (name : Text) (uses : List Use) → has_row name (rows_for uses) ≡ has name uses
 row_stands name uses = sym (list_any-map (λ r. bytes_eq r.id name) row_for uses)

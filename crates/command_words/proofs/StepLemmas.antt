@@ -12,9 +12,10 @@ use Rattle.clap.specs.Kinds.{Kinds, or_else}
 use Rattle.clap.specs.Faults.{bundle_fault, bundle_step_fault, check_fault, defaults_fault, flag_word_fault, flags_fault, long_fault, other_fault, positional_fault, react_fault, settle_fault, short_fault, step_fault, turn_fault, use_fault, walk_fault}
 use Rattle.clap.specs.declared.error.kind.ErrorKind.TheVariants as kind
 use Rattle.command_words.specs.Grammar.{Known, Text, Use, before, command_name, distinct, find_known, has}
+use Rattle.command_words.specs.Giving.{rows_for, values_listed}
 use Rattle.command_words.proofs.UseLemmas.{eq_self, has-append, has_last, repeats, still_repeats, stays_distinct, with, with-before}
 use Rattle.command_words.proofs.WordLemmas.{Reads, hyphens}
-use Rattle.command_words.proofs.RuleLemmas.{IsFault, Repeats, command_rule, fault_first, finished_rows, flag_use, id_found, is_fault, long_found, no_check, no_defaults, no_second, no_short, option_rule, row_for, rows_for, rule_with, rules_for, shape_for, used_new, value_use, values_listed, values_taken}
+use Rattle.command_words.proofs.RuleLemmas.{IsFault, Repeats, command_rule, fault_first, finished_rows, flag_use, id_found, is_fault, long_found, no_check, no_defaults, no_second, no_short, option_rule, rule_with, rules_for, shape_for, used_new, value_use, values_taken}
 
 -- ---- where the walk stands
 

@@ -10,9 +10,10 @@ use Rattle.clap.specs.Walk.{option as walk_option}
 use Rattle.clap.specs.Kinds.{Kinds, or_else}
 use Rattle.clap.specs.Faults.{check_fault, defaults_fault, react_fault, settle_fault, step_fault, turn_fault, walk_fault}
 use Rattle.command_words.specs.Grammar.{Known, Rest, Text, Use, Word, before, command_name, distinct, end_of_options, find_known, has, known_uses, next_uses, option, option_uses, plain, stray, uses_of, value_uses, word_of, word_uses}
+use Rattle.command_words.specs.Giving.{rows_for, values_listed}
 use Rattle.command_words.proofs.UseLemmas.{eq_self, has-append, has_last, repeats, still_repeats, with, with-before}
 use Rattle.command_words.proofs.WordLemmas.{Reads, reads}
-use Rattle.command_words.proofs.RuleLemmas.{IsFault, fault_first, find_passes, finished_rows, id_found, is_fault, long_found, no_check, no_defaults, option_rule, rows_for, rule_with, rules_for, shape_for, values_taken}
+use Rattle.command_words.proofs.RuleLemmas.{IsFault, fault_first, find_passes, finished_rows, id_found, is_fault, long_found, no_check, no_defaults, option_rule, rule_with, rules_for, shape_for, values_taken}
 use Rattle.command_words.proofs.StepLemmas.{IsKept, Kept, Settles, Takes, Turns, all_of, command_fault, command_walked, end_turn, full, held_at, nothing, option_kinds, option_turn, option_walked, place_at, plain_kinds, plain_turn, reacts_flag, reacts_value, second_command, settles_full, settles_nothing, settles_wants, stand, stray_turn, value_pushed, waiting_for, waits_for, walk_at, wants}
 
 -- the texts are UTF-8

@@ -124,17 +124,17 @@ unfoldable pub distinct : List Use → Bool
 distinct [] = true
 distinct (u ∷ uses) = not (has u.0 uses) && distinct uses
 
+-- the value of a name
+abbrev pub value_of : Text → List Use → Option Text
+value_of name uses = option_and_then (λ u. u.1) (find (λ u. bytes_eq u.0 name) uses)
+
 abbrev pub once : Option (List Use) → Option (List Use)
 once None = None
-once (Some uses) = if distinct uses && has command_name uses then Some uses else None
+once (Some uses) = if distinct uses && is_some (value_of command_name uses) then Some uses else None
 
 -- what right words use; None for any other words
 abbrev pub spelled : List Known → List Text → Option (List Use)
 spelled known words = once (uses_of known false None words)
-
--- the value of a name
-abbrev pub value_of : Text → List Use → Option Text
-value_of name uses = option_and_then (λ u. u.1) (find (λ u. bytes_eq u.0 name) uses)
 
 -- ---- the options of the program
 

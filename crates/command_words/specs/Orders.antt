@@ -1,5 +1,5 @@
 -- What right words order: a command with the values of its own options.
-use Rattle.std.specs.Prelude.{◌≡◌, ◌||◌, ℕ, Bool, true, not, List, [], ◌∷◌, length, codes, Some, Ok}
+use Rattle.std.specs.Prelude.{◌≡◌, ◌||◌, ℕ, Bool, true, not, List, [], ◌∷◌, length, codes, Some, Ok, is_some, if◌then◌else◌}
 use Rattle.std.specs.List.{list_all, list_any}
 use Rattle.std.specs.Str.{bytes_eq}
 use Rattle.hex.specs.Hex.{decode_of}
@@ -8,9 +8,13 @@ use Rattle.command_words.specs.Grammar.{Known, Text, Use, command_name, has, opt
 use Rattle.command_words.specs.declared.order.Order.{Order}
 use Rattle.command_words.specs.declared.order.Order.TheVariants.{Replay}
 
--- each option that is used is one of these
+-- the option stands among the uses: with its value, or as a flag
+abbrev pub stands : Known → List Use → Bool
+stands k uses = if k.takes_value then is_some (value_of k.name uses) else has k.name uses
+
+-- each option that stands is one of these
 abbrev pub takes_only : List Text → List Use → Bool
-takes_only own uses = list_all (λ k. list_any (λ name. bytes_eq name k.name) own || not (has k.name uses)) options
+takes_only own uses = list_all (λ k. list_any (λ name. bytes_eq name k.name) own || not (stands k uses)) options
 
 -- the text is 64 hexadecimal digits of either case, which spell the key's bytes, the high digit of each byte first
 pub record SpellsKey (digits : Text) (key : Key) : Type 0 where

@@ -1,7 +1,8 @@
 //! The words of the command line: which are right, and what they order.
 #![tactic(auto)]
 
+mod given;
 pub mod laws;
 mod order;
 
-pub use order::Order;
+pub use order::{Order, read_order};

@@ -1,0 +1,25 @@
+-- The order of a command and its values.
+use Rattle.std.proofs.Common.{◌≡◌, ◌∙◌, ◌↔◌, ◌&&◌, ◌||◌, ℕ, Bool, true, false, not, List, length, Option, None, Some, Ok, is_some, refl, sym, ap, ap₂}
+use Rattle.std.specs.Prelude.{codes, unwrap_or}
+use Rattle.std.specs.Borrow.{Bor}
+use Rattle.std.specs.List.{AllPass}
+use Rattle.std.proofs.lemmas.Bool.{false≢true}
+use Rattle.hex.specs.Hex.{decode_of, is_hex_digit}
+use Rattle.hex.proofs.HexLemmas.{decode_of-ok, decode_of-same}
+use Rattle.value_cipher.specs.declared.Key.{Key}
+use Rattle.command_words.specs.Grammar.{Text, Use, options, spelled, value_of}
+use Rattle.command_words.specs.Giving.{IsGiven, text_of}
+use Rattle.command_words.specs.Orders.{AreWords, IsOrder, IsReplay}
+use Rattle.command_words.specs.declared.given.Given.{Given}
+use Rattle.command_words.specs.declared.order.Order.{Order}
+use Rattle.command_words.specs.declared.order.Order.TheVariants.{Replay}
+
+inside : (a b : Text) → ◌≡◌ {A = Option Text} (Some a) (Some b) → a ≡ b
+inside a b e = ap (λ o. unwrap_or o a) e
+
+-- digits that spell no key order nothing
+pub no_digits : (uses : List Use) (given : Given) (word : Bor Text) (digits : Text) → IsGiven given uses → given.key ≡ Some word → digits ≡ word.now
+    → ((false ≡ true) ↔ ((length digits ≡ 64) × AllPass is_hex_digit digits)) → (order : Order) → ¬ IsOrder uses order
+no_digits uses given word digits is stands same found (Replay key) replay =
+    let one : digits ≡ replay.digits = same ∙ inside word.now replay.digits (sym (ap text_of stands) ∙ (is.key ∙ replay.given)) in
+    false≢true (found.1 (ap (λ (d : Text). length d) one ∙ replay.spells.count, rw one (decode_of-ok replay.digits key.bytes replay.spells.value).1))

@@ -23,3 +23,22 @@ pub no_digits : (uses : List Use) (given : Given) (word : Bor Text) (digits : Te
 no_digits uses given word digits is stands same found (Replay key) replay =
     let one : digits ≡ replay.digits = same ∙ inside word.now replay.digits (sym (ap text_of stands) ∙ (is.key ∙ replay.given)) in
     false≢true (found.1 (ap (λ (d : Text). length d) one ∙ replay.spells.count, rw one (decode_of-ok replay.digits key.bytes replay.spells.value).1))
+
+-- whether a word was given for an option
+pub stands_as : (o : Option (Bor Text)) (v : Option Text) → text_of o ≡ v → is_some o ≡ is_some v
+stands_as None v e = ap is_some e
+stands_as (Some word) v e = ap is_some e
+
+-- none of nine stands
+pub none_of : (a b c d e f g h i : Bool) → not (((((((a || b) || c) || d) || e) || f) || g) || (h || i))
+    ≡ (not a && (not b && (not c && (not d && (not e && (not f && (not g && (not h && (not i && true)))))))))
+none_of true b c d e f g h i = refl
+none_of false true c d e f g h i = refl
+none_of false false true d e f g h i = refl
+none_of false false false true e f g h i = refl
+none_of false false false false true f g h i = refl
+none_of false false false false false true g h i = refl
+none_of false false false false false false true h i = refl
+none_of false false false false false false false true i = refl
+none_of false false false false false false false false true = refl
+none_of false false false false false false false false false = refl

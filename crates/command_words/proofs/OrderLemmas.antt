@@ -1,15 +1,14 @@
 -- The order of a command and its values.
-use Rattle.std.proofs.Common.{◌≡◌, ◌∙◌, ◌↔◌, ◌&&◌, ◌||◌, ℕ, Bool, true, false, not, List, length, Option, None, Some, Ok, is_some, refl, sym, ap, ap₂}
-use Rattle.std.specs.Prelude.{codes, unwrap_or}
+use Rattle.std.proofs.Common.{◌≡◌, ◌∙◌, ◌↔◌, ◌&&◌, ◌||◌, Bool, true, false, not, List, length, Option, None, Some, is_some, refl, sym, ap}
+use Rattle.std.specs.Prelude.{unwrap_or}
 use Rattle.std.specs.Borrow.{Bor}
 use Rattle.std.specs.List.{AllPass}
 use Rattle.std.proofs.lemmas.Bool.{false≢true}
-use Rattle.hex.specs.Hex.{decode_of, is_hex_digit}
-use Rattle.hex.proofs.HexLemmas.{decode_of-ok, decode_of-same}
-use Rattle.value_cipher.specs.declared.Key.{Key}
-use Rattle.command_words.specs.Grammar.{Text, Use, options, spelled, value_of}
+use Rattle.hex.specs.Hex.{is_hex_digit}
+use Rattle.hex.proofs.HexLemmas.{decode_of-ok}
+use Rattle.command_words.specs.Grammar.{Text, Use}
 use Rattle.command_words.specs.Giving.{IsGiven, text_of}
-use Rattle.command_words.specs.Orders.{AreWords, IsOrder, IsReplay}
+use Rattle.command_words.specs.Orders.{IsOrder}
 use Rattle.command_words.specs.declared.given.Given.{Given}
 use Rattle.command_words.specs.declared.order.Order.{Order}
 use Rattle.command_words.specs.declared.order.Order.TheVariants.{Replay}

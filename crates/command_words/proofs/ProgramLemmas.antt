@@ -1,13 +1,12 @@
 -- The program's own command: what clap faults and finds on all words of a command line.
-use Rattle.std.proofs.Common.{◌≡◌, ◌⊎◌, ◌∙◌, ℕ, Bool, true, false, List, [], ◌∷◌, map, Option, Some, None, is_some, refl, sym, ap, ap₂, subst, inl, inr, cond, ◌&&◌, ◌||◌, option_map}
+use Rattle.std.proofs.Common.{◌≡◌, ◌∙◌, Bool, true, false, List, [], ◌∷◌, Option, Some, None, is_some, refl, sym, ap, ap₂, subst, inl, inr, cond, ◌&&◌, ◌||◌, option_map}
 use Rattle.std.specs.Prelude.{String, find, option_and_then, slice_get}
-use Rattle.std.specs.String.{string_bytes}
-use Rattle.std.specs.Str.{IsUtf8, bytes_eq}
+use Rattle.std.specs.Str.{bytes_eq}
 use Rattle.std.specs.List.{list_any}
 use Rattle.std.proofs.lemmas.Str.{IsUtf8-string_bytes}
 use Rattle.clap.specs.Kinds.{HasKind, IsAmong, Kinds}
 use Rattle.clap.specs.Faults.{fault_of, is_simple_and_free, level_fault}
-use Rattle.clap.specs.Walk.{Row, first_of, nothing_held, rows_of}
+use Rattle.clap.specs.Walk.{Row, first_of, nothing_held}
 use Rattle.clap.specs.Simple.{App, HasMatchesOf, app_of, built, is_simple, matches_of, with_rule}
 use Rattle.clap.specs.Built.{AddsArg}
 use Rattle.clap.specs.Matches.{first_value, found_of, matched_of}
@@ -16,10 +15,8 @@ use Rattle.clap.specs.Walk.{Rule, rule_of}
 use Rattle.clap.specs.declared.builder.arg.Arg.{Arg}
 use Rattle.clap.specs.declared.builder.command.Command.{Command}
 use Rattle.clap.specs.declared.error.Error.{Error}
-use Rattle.clap.specs.declared.error.kind.ErrorKind.{ErrorKind}
 use Rattle.clap.specs.declared.error.kind.ErrorKind.TheVariants.{OutOfMemory}
 use Rattle.clap.specs.declared.parser.matches.ArgMatches.{ArgMatches}
-use Rattle.clap.specs.declared.parser.matches.Found.{Found}
 use Rattle.clap.proofs.WalkLemmas.{find-map, find_row, first_value-rows}
 use Rattle.clap.proofs.FaultLemmas.{leaf_fault}
 use Rattle.command_words.specs.Grammar.{Text, Use, command_name, distinct, find_known, has, once, options, spelled, texts, uses_of, value_of}

@@ -1,23 +1,21 @@
 -- The rules of a command with options that are each used once, and what clap looks up in them.
-use Rattle.std.proofs.Common.{◌≡◌, ◌⊎◌, ◌∙◌, ◌&&◌, ◌||◌, ◌==◌, ℕ, Bool, true, false, not, List, [], ◌∷◌, ◌++◌, map, length, Option, Some, None, is_some, refl, sym, ap, ap₂, subst, cond, inl, inr, true≢false, option_map}
-use Rattle.std.specs.Prelude.{codes, find, zero, suc, ⊤}
+use Rattle.std.proofs.Common.{◌≡◌, ◌⊎◌, ◌∙◌, ◌&&◌, ◌||◌, ℕ, Bool, true, false, not, List, [], ◌∷◌, ◌++◌, map, Option, Some, None, is_some, refl, sym, ap, subst, cond, inl, inr, true≢false, option_map}
+use Rattle.std.specs.Prelude.{codes, find, ⊤}
 use Rattle.std.specs.List.{fold, list_any}
-use Rattle.std.specs.Option.{option_map_or}
 use Rattle.std.specs.Str.{bytes_eq}
 use Rattle.std.proofs.lemmas.Slice.Eq.{bytes_eq-Decides}
-use Rattle.clap.specs.Walk.{Held, Row, Rule, arg_by_id, arg_by_index, arg_by_long, arg_by_short, at_row, finished, has_row, is_pending, more_values, positional_held, pushed, settled, takes_several, used, with_default, with_values, without}
+use Rattle.clap.specs.Walk.{Row, Rule, arg_by_id, arg_by_index, arg_by_long, arg_by_short, has_row, more_values, used, with_default, with_values, without}
 use Rattle.clap.specs.Simple.{Shape, new_rule, new_shape}
 use Rattle.clap.specs.Kinds.{Kinds, or_else}
-use Rattle.clap.specs.Faults.{check_fault, default_fault, defaults_fault, positional_fault, repeat_fault, settle_fault, use_fault}
+use Rattle.clap.specs.Faults.{check_fault, defaults_fault, use_fault}
 use Rattle.clap.specs.declared.builder.action.ArgAction.TheVariants.{Set}
 use Rattle.clap.specs.declared.builder.value_parser.ValueParser.TheVariants as vp
 use Rattle.clap.specs.declared.builder.value_parser.Reading.TheVariants.{AsWritten}
 use Rattle.clap.specs.declared.error.kind.ErrorKind.TheVariants as kind
 use Rattle.clap.specs.declared.parser.matches.ValueSource.TheVariants.{CommandLine}
 use Rattle.clap.proofs.WalkLemmas.{find-map, list_any-map}
-use Rattle.command_words.specs.Grammar.{Known, Text, Use, command_name, distinct, find_known, has}
+use Rattle.command_words.specs.Grammar.{Known, Text, Use, command_name, find_known, has}
 use Rattle.command_words.specs.Giving.{row_for, rows_for, values_listed}
-use Rattle.command_words.proofs.UseLemmas.{repeats, stays_distinct}
 
 -- ---- the rules
 

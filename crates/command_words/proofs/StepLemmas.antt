@@ -1,21 +1,19 @@
 -- clap's walk over the words, one word at a time, in step with the grammar.
-use Rattle.std.proofs.Common.{◌≡◌, ◌⊎◌, ◌∙◌, ◌&&◌, ◌||◌, ℕ, Bool, true, false, not, List, [], ◌∷◌, ◌++◌, map, length, Option, Some, None, is_some, refl, sym, ap, ap₂, subst, cond, inl, inr, true≢false, option_map}
-use Rattle.std.specs.Prelude.{drop, encode_utf8, find, suc, ⊤, slice_get, nat_lt}
-use Rattle.std.specs.List.{fold}
+use Rattle.std.proofs.Common.{◌≡◌, ◌⊎◌, ◌∙◌, ◌&&◌, ◌||◌, ℕ, Bool, true, false, List, [], ◌∷◌, ◌++◌, length, Option, Some, None, refl, sym, ap, subst, cond, inl, inr}
+use Rattle.std.specs.Prelude.{drop, encode_utf8, ⊤, slice_get, nat_lt}
 use Rattle.std.specs.Option.{option_map_or}
 use Rattle.std.specs.Str.{bytes_eq, chars}
-use Rattle.std.proofs.lemmas.List.{append-nil}
 use Rattle.clap.specs.Lexer.{long_of, short_of}
-use Rattle.clap.specs.Walk.{Held, Row, Rule, Step, Waiting, Walk, after_flag, after_step, arg_by_id, arg_by_index, arg_by_long, arg_by_short, idle, is_pending, long_met, long_or_other, option_word, positional_held, pushed, reacted, settled, short_or_plain, next, positional, subcommand_met, subcommand_or_other, to_positional, trailing, used, used_by_id, value, walked, with_default}
+use Rattle.clap.specs.Walk.{Held, Row, Rule, Waiting, Walk, after_flag, after_step, arg_by_id, arg_by_index, arg_by_long, idle, is_pending, long_met, long_or_other, option_word, pushed, reacted, settled, short_or_plain, next, positional, subcommand_met, subcommand_or_other, to_positional, trailing, used, used_by_id, value, walked}
 use Rattle.clap.specs.Walk.{option as walk_option}
 use Rattle.clap.specs.Kinds.{Kinds, or_else}
-use Rattle.clap.specs.Faults.{bundle_fault, bundle_step_fault, check_fault, defaults_fault, flag_word_fault, flags_fault, long_fault, other_fault, positional_fault, react_fault, settle_fault, short_fault, step_fault, turn_fault, use_fault, walk_fault}
+use Rattle.clap.specs.Faults.{bundle_fault, bundle_step_fault, flag_word_fault, flags_fault, long_fault, other_fault, positional_fault, react_fault, settle_fault, short_fault, step_fault, turn_fault, use_fault}
 use Rattle.clap.specs.declared.error.kind.ErrorKind.TheVariants as kind
-use Rattle.command_words.specs.Grammar.{Known, Text, Use, before, command_name, distinct, find_known, has}
+use Rattle.command_words.specs.Grammar.{Known, Text, Use, command_name, distinct}
 use Rattle.command_words.specs.Giving.{rows_for, values_listed}
-use Rattle.command_words.proofs.UseLemmas.{eq_self, has-append, has_last, repeats, still_repeats, stays_distinct, with, with-before}
-use Rattle.command_words.proofs.WordLemmas.{Reads, hyphens}
-use Rattle.command_words.proofs.RuleLemmas.{IsFault, Repeats, command_rule, fault_first, finished_rows, flag_use, id_found, is_fault, long_found, no_check, no_defaults, no_second, no_short, option_rule, rule_with, rules_for, shape_for, used_new, value_use, values_taken}
+use Rattle.command_words.proofs.UseLemmas.{eq_self, repeats, still_repeats, stays_distinct}
+use Rattle.command_words.proofs.WordLemmas.{hyphens}
+use Rattle.command_words.proofs.RuleLemmas.{IsFault, Repeats, command_rule, fault_first, flag_use, is_fault, no_second, no_short, rule_with, rules_for, shape_for, used_new, value_use}
 
 -- ---- where the walk stands
 
@@ -161,9 +159,9 @@ module _ (known : List Known) where
       → Turns (stand h waiting position false) word [] (stand h waiting position true)
   end_turn h waiting position word e = (
     word_turn h waiting position word ∙ (λ i. or_else (cond (e i) [] (flag_word_fault rules false (long_of word) word h))
-    (step_fault (shape_for known) position (cond (e i) (h, trailing position) (long_or_other rules waiting word (long_of word) h)).0 (cond (e i) (h, trailing position) (long_or_other rules waiting word (long_of word) h)).1)),
+        (step_fault (shape_for known) position (cond (e i) (h, trailing position) (long_or_other rules waiting word (long_of word) h)).0 (cond (e i) (h, trailing position) (long_or_other rules waiting word (long_of word) h)).1)),
     word_walked h waiting position word ∙ (λ i. after_step rules word (stand h waiting position false)
-    (cond (e i) (h, trailing position) (long_or_other rules waiting word (long_of word) h)).0 (cond (e i) (h, trailing position) (long_or_other rules waiting word (long_of word) h)).1),
+        (cond (e i) (h, trailing position) (long_or_other rules waiting word (long_of word) h)).0 (cond (e i) (h, trailing position) (long_or_other rules waiting word (long_of word) h)).1),
   )
 
   -- an option, by the rule of its name
@@ -180,13 +178,13 @@ module _ (known : List Known) where
       → Turns (stand h waiting position false) word (option_kinds o h waiting position word v) (option_walked o h waiting position word v)
   option_turn h waiting position word name v o e l found = (
     word_turn h waiting position word
-    ∙ ((λ i. or_else (cond (e i) [] (flag_word_fault rules false (l i) word h))
-    (step_fault (shape_for known) position (cond (e i) (h, trailing position) (long_or_other rules waiting word (l i) h)).0 (cond (e i) (h, trailing position) (long_or_other rules waiting word (l i) h)).1))
-    ∙ ap (λ r. option_kinds r h waiting position word v) found),
+        ∙ ((λ i. or_else (cond (e i) [] (flag_word_fault rules false (l i) word h))
+        (step_fault (shape_for known) position (cond (e i) (h, trailing position) (long_or_other rules waiting word (l i) h)).0 (cond (e i) (h, trailing position) (long_or_other rules waiting word (l i) h)).1))
+        ∙ ap (λ r. option_kinds r h waiting position word v) found),
     word_walked h waiting position word
-    ∙ ((λ i. after_step rules word (stand h waiting position false)
-    (cond (e i) (h, trailing position) (long_or_other rules waiting word (l i) h)).0 (cond (e i) (h, trailing position) (long_or_other rules waiting word (l i) h)).1)
-    ∙ ap (λ r. option_walked r h waiting position word v) found),
+        ∙ ((λ i. after_step rules word (stand h waiting position false)
+        (cond (e i) (h, trailing position) (long_or_other rules waiting word (l i) h)).0 (cond (e i) (h, trailing position) (long_or_other rules waiting word (l i) h)).1)
+        ∙ ap (λ r. option_walked r h waiting position word v) found),
   )
 
   -- a plain word, by what a plain word comes to
@@ -198,14 +196,14 @@ module _ (known : List Known) where
       (after_step rules word (stand h waiting position false) (short_or_plain rules waiting word None h).0 (short_or_plain rules waiting word None h).1)
   plain_turn h waiting position word e l s = (
     word_turn h waiting position word
-    ∙ ((λ i. or_else (cond (e i) [] (flag_word_fault rules false (l i) word h))
-    (step_fault (shape_for known) position (cond (e i) (h, trailing position) (long_or_other rules waiting word (l i) h)).0 (cond (e i) (h, trailing position) (long_or_other rules waiting word (l i) h)).1))
-    ∙ ap (λ t. or_else (option_map_or (λ flags. bundle_fault rules false flags h) t [])
-    (step_fault (shape_for known) position (short_or_plain rules waiting word t h).0 (short_or_plain rules waiting word t h).1)) s),
+        ∙ ((λ i. or_else (cond (e i) [] (flag_word_fault rules false (l i) word h))
+        (step_fault (shape_for known) position (cond (e i) (h, trailing position) (long_or_other rules waiting word (l i) h)).0 (cond (e i) (h, trailing position) (long_or_other rules waiting word (l i) h)).1))
+        ∙ ap (λ t. or_else (option_map_or (λ flags. bundle_fault rules false flags h) t [])
+        (step_fault (shape_for known) position (short_or_plain rules waiting word t h).0 (short_or_plain rules waiting word t h).1)) s),
     word_walked h waiting position word
-    ∙ ((λ i. after_step rules word (stand h waiting position false)
-    (cond (e i) (h, trailing position) (long_or_other rules waiting word (l i) h)).0 (cond (e i) (h, trailing position) (long_or_other rules waiting word (l i) h)).1)
-    ∙ ap (λ t. after_step rules word (stand h waiting position false) (short_or_plain rules waiting word t h).0 (short_or_plain rules waiting word t h).1) s),
+        ∙ ((λ i. after_step rules word (stand h waiting position false)
+        (cond (e i) (h, trailing position) (long_or_other rules waiting word (l i) h)).0 (cond (e i) (h, trailing position) (long_or_other rules waiting word (l i) h)).1)
+        ∙ ap (λ t. after_step rules word (stand h waiting position false) (short_or_plain rules waiting word t h).0 (short_or_plain rules waiting word t h).1) s),
   )
 
   -- `-x`: no option has a short name
@@ -213,19 +211,19 @@ module _ (known : List Known) where
   unfolding flags_fault
   bundle_refused h x xs c first none =
       is_fault _ _ (
-        (λ i. bundle_step_fault rules false (first i) (x ∷ xs) (none i) (record h { skip = 0 }) (flags_fault rules false (length xs)))
-        ∙ ap (λ (o : Option Rule). short_fault rules false o (drop (length (encode_utf8 c)) (x ∷ xs)) (record h { skip = 0 }) (flags_fault rules false (length xs) (drop (length (encode_utf8 c)) (x ∷ xs)) 0)) (no_short known c)
+      (λ i. bundle_step_fault rules false (first i) (x ∷ xs) (none i) (record h { skip = 0 }) (flags_fault rules false (length xs)))
+      ∙ ap (λ (o : Option Rule). short_fault rules false o (drop (length (encode_utf8 c)) (x ∷ xs)) (record h { skip = 0 }) (flags_fault rules false (length xs) (drop (length (encode_utf8 c)) (x ∷ xs)) 0)) (no_short known c)
       ) tt
 
   pub stray_turn : (h : Held) (waiting : Waiting) (position : ℕ) (word : Text) (x : ℕ) (xs : Text) (c : ℕ) → h.skip ≡ 0 → bytes_eq word hyphens ≡ false → long_of word ≡ None
       → short_of word ≡ Some (x ∷ xs) → slice_get (chars (x ∷ xs)) 0 ≡ Some c → IsFault (turn_fault (shape_for known) [] (stand h waiting position false) word)
   stray_turn h waiting position word x xs c none e l s first =
       is_fault _ _ (
-        word_turn h waiting position word
-        ∙ (λ i. or_else (cond (e i) [] (flag_word_fault rules false (l i) word h))
-        (step_fault (shape_for known) position (cond (e i) (h, trailing position) (long_or_other rules waiting word (l i) h)).0 (cond (e i) (h, trailing position) (long_or_other rules waiting word (l i) h)).1))
-        ∙ ap (λ t. or_else (option_map_or (λ flags. bundle_fault rules false flags h) t [])
-        (step_fault (shape_for known) position (short_or_plain rules waiting word t h).0 (short_or_plain rules waiting word t h).1)) s
+      word_turn h waiting position word
+      ∙ (λ i. or_else (cond (e i) [] (flag_word_fault rules false (l i) word h))
+      (step_fault (shape_for known) position (cond (e i) (h, trailing position) (long_or_other rules waiting word (l i) h)).0 (cond (e i) (h, trailing position) (long_or_other rules waiting word (l i) h)).1))
+      ∙ ap (λ t. or_else (option_map_or (λ flags. bundle_fault rules false flags h) t [])
+      (step_fault (shape_for known) position (short_or_plain rules waiting word t h).0 (short_or_plain rules waiting word t h).1)) s
       ) (fault_first _ _ (bundle_refused h x xs c first none))
 
   -- ---- the command

@@ -1,20 +1,20 @@
 -- clap takes the words exactly where the grammar spells them, and then has its uses.
-use Rattle.std.proofs.Common.{◌≡◌, ◌⊎◌, ◌∙◌, ◌||◌, ℕ, Bool, true, false, List, [], ◌∷◌, ◌++◌, Option, Some, None, is_some, refl, sym, ap, ap₂, subst, inl, inr, true≢false, option_map}
+use Rattle.std.proofs.Common.{◌≡◌, ◌⊎◌, ◌∙◌, ◌||◌, Bool, true, false, List, [], ◌∷◌, ◌++◌, Option, Some, None, is_some, refl, sym, ap, ap₂, subst, inl, inr, true≢false, option_map}
 use Rattle.std.specs.Prelude.{⊤}
 use Rattle.std.specs.List.{fold}
 use Rattle.std.specs.Str.{IsUtf8, bytes_eq}
 use Rattle.std.proofs.lemmas.List.{append-nil}
 use Rattle.std.proofs.lemmas.Slice.Eq.{bytes_eq-Decides}
-use Rattle.clap.specs.Walk.{Held, Row, Rule, Waiting, Walk, after_step, arg_by_id, arg_by_index, idle, next, reacted, settled, short_or_plain, to_positional, value, walked, with_default}
+use Rattle.clap.specs.Walk.{Held, Row, Waiting, Walk, after_step, arg_by_id, arg_by_index, idle, settled, to_positional, value, walked, with_default}
 use Rattle.clap.specs.Walk.{option as walk_option}
 use Rattle.clap.specs.Kinds.{Kinds, or_else}
-use Rattle.clap.specs.Faults.{check_fault, defaults_fault, react_fault, settle_fault, step_fault, turn_fault, walk_fault}
-use Rattle.command_words.specs.Grammar.{Known, Rest, Text, Use, Word, before, command_name, distinct, end_of_options, find_known, has, known_uses, next_uses, option, option_uses, plain, stray, uses_of, value_uses, word_of, word_uses}
-use Rattle.command_words.specs.Giving.{rows_for, values_listed}
-use Rattle.command_words.proofs.UseLemmas.{eq_self, has-append, has_last, repeats, still_repeats, with, with-before}
+use Rattle.clap.specs.Faults.{check_fault, defaults_fault, settle_fault, step_fault, turn_fault, walk_fault}
+use Rattle.command_words.specs.Grammar.{Known, Rest, Text, Use, Word, before, command_name, distinct, end_of_options, find_known, has, known_uses, option, option_uses, plain, stray, uses_of, value_uses, word_of, word_uses}
+use Rattle.command_words.specs.Giving.{rows_for}
+use Rattle.command_words.proofs.UseLemmas.{has-append, has_last, repeats, still_repeats, with, with-before}
 use Rattle.command_words.proofs.WordLemmas.{Reads, reads}
 use Rattle.command_words.proofs.RuleLemmas.{IsFault, fault_first, find_passes, finished_rows, id_found, is_fault, long_found, no_check, no_defaults, option_rule, rule_with, rules_for, shape_for, values_taken}
-use Rattle.command_words.proofs.StepLemmas.{IsKept, Kept, Settles, Takes, Turns, all_of, command_fault, command_walked, end_turn, full, held_at, nothing, option_kinds, option_turn, option_walked, place_at, plain_kinds, plain_turn, reacts_flag, reacts_value, second_command, settles_full, settles_nothing, settles_wants, stand, stray_turn, value_pushed, waiting_for, waits_for, walk_at, wants}
+use Rattle.command_words.proofs.StepLemmas.{IsKept, Kept, Settles, Takes, Turns, all_of, command_fault, command_walked, end_turn, full, held_at, nothing, option_kinds, option_turn, option_walked, place_at, plain_turn, reacts_flag, reacts_value, second_command, settles_full, settles_nothing, settles_wants, stand, stray_turn, value_pushed, waiting_for, waits_for, walk_at, wants}
 
 -- the texts are UTF-8
 abbrev pub EachUtf8 : List Text → Type 0
@@ -71,8 +71,8 @@ module _ (known : List Known) (free : find_known known command_name ≡ None) wh
       → Agrees (end_kinds h) (fold with_default (settled (rules_for known) h).rows (rules_for known)) (Some (all ++ []))
   ended_settled h all (inl (none, after, d)) = inl (
     ap (λ k. or_else k (or_else (defaults_fault (settled (rules_for known) h).rows (rules_for known)) (check_fault (shape_for known) (fold with_default (settled (rules_for known) h).rows (rules_for known)) false))) none
-    ∙ (ap (λ k. or_else k (check_fault (shape_for known) (fold with_default (settled (rules_for known) h).rows (rules_for known)) false)) (no_defaults (settled (rules_for known) h).rows known)
-    ∙ no_check (fold with_default (settled (rules_for known) h).rows (rules_for known)) known),
+        ∙ (ap (λ k. or_else k (check_fault (shape_for known) (fold with_default (settled (rules_for known) h).rows (rules_for known)) false)) (no_defaults (settled (rules_for known) h).rows known)
+        ∙ no_check (fold with_default (settled (rules_for known) h).rows (rules_for known)) known),
     finished_rows (settled (rules_for known) h).rows known ∙ (ap (λ (x : Held). x.rows) after ∙ ap rows_for (sym (append-nil all))),
     ap distinct (append-nil all) ∙ d,
   )

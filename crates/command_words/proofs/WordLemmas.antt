@@ -1,5 +1,5 @@
 -- How clap reads one word, by the grammar's kind of that word.
-use Rattle.std.proofs.Common.{◌≡◌, ◌∙◌, ◌&&◌, ◌==◌, ℕ, Bool, true, false, List, [], ◌∷◌, ◌++◌, length, Option, Some, None, refl, sym, ap, ap₂, subst, suc, cond, eqb-true, arith}
+use Rattle.std.proofs.Common.{◌≡◌, ◌∙◌, ◌&&◌, ◌==◌, ℕ, Bool, true, false, List, [], ◌∷◌, length, Some, None, refl, sym, ap, ap₂, subst, suc, cond, eqb-true, arith}
 use Rattle.std.specs.Prelude.{option_and_then, slice_get}
 use Rattle.std.specs.Char.{encode_utf8}
 use Rattle.std.specs.Str.{IsUtf8, bytes_eq, chars, encode_utf8_all}
@@ -55,7 +55,7 @@ short : (x y : ℕ) (ys : Text) → IsUtf8 (x ∷ y ∷ ys) → (x == 45) ≡ tr
 short x y ys ok e f = as_kind (x ∷ y ∷ ys) stray (ap₂ (λ b c. cond b (cond c (after_two_hyphens ys) stray) plain) e f) (
   ap₂ (λ b c. b && (c && bytes_eq ys [])) e f,
   ap (λ b. option_and_then long_of_rest (option_and_then (strip_byte 45) (cond b (Some (y ∷ ys)) None))) e
-  ∙ ap (λ c. option_and_then long_of_rest (cond c (Some ys) None)) f,
+      ∙ ap (λ c. option_and_then long_of_rest (cond c (Some ys) None)) f,
   (
     y,
     ys,
@@ -76,7 +76,7 @@ long : (x y z : ℕ) (zs : Text) → (x == 45) ≡ true → (y == 45) ≡ true �
 long x y z zs e f = as_kind (x ∷ y ∷ z ∷ zs) (after_two_hyphens (z ∷ zs)) (ap₂ (λ b c. cond b (cond c (after_two_hyphens (z ∷ zs)) stray) plain) e f) (
   ap₂ (λ b c. b && (c && false)) e f,
   ap (λ b. option_and_then long_of_rest (option_and_then (strip_byte 45) (cond b (Some (y ∷ z ∷ zs)) None))) e
-  ∙ ap (λ c. option_and_then long_of_rest (cond c (Some (z ∷ zs)) None)) f,
+      ∙ ap (λ c. option_and_then long_of_rest (cond c (Some (z ∷ zs)) None)) f,
 )
 
 two : (x y : ℕ) (ys : Text) → IsUtf8 (x ∷ y ∷ ys) → (x == 45) ≡ true → (b : Bool) → (y == 45) ≡ b → Reads (x ∷ y ∷ ys) (word_of (x ∷ y ∷ ys))

@@ -1,5 +1,5 @@
 -- How the words of a command line come through clap: the command that is handed to it, and the words that it gives back.
-use Rattle.std.specs.Prelude.{◌≡◌, ℕ, Bool, true, false, List, [], ◌∷◌, map, codes, Option, Some, None, option_map}
+use Rattle.std.specs.Prelude.{◌≡◌, Bool, true, false, List, [], ◌∷◌, map, codes, Option, Some, None, option_map}
 use Rattle.std.specs.Borrow.{Bor}
 use Rattle.clap.specs.Walk.{Row, Rule, rows_of}
 use Rattle.clap.specs.Simple.{App, new_rule, new_shape}

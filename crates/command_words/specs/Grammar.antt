@@ -1,6 +1,6 @@
 -- The grammar of the words of a command line: one command and options in any order. An option is `--name` or `--name=value`,
 -- or `--name` and its value in the word after it. After the word `--` no word is an option.
-use Rattle.std.specs.Prelude.{◌≡◌, ◌==◌, ◌&&◌, ◌||◌, ℕ, Bool, true, false, not, List, [], ◌∷◌, map, codes, Option, Some, None}
+use Rattle.std.specs.Prelude.{◌==◌, ◌&&◌, ℕ, Bool, true, false, not, List, [], ◌∷◌, map, codes, Option, Some, None}
 use Rattle.std.specs.Prelude.{if◌then◌else◌, find, option_and_then, is_some, String}
 use Rattle.std.specs.List.{list_any, before_first, after_first}
 use Rattle.std.specs.Str.{bytes_eq}

@@ -6,3 +6,6 @@ pub mod laws;
 mod order;
 
 pub use order::{Order, read_order};
+
+#[cfg(test)]
+mod tests;

@@ -1,7 +1,6 @@
-use Rattle.std.proofs.Common.{◌≡◌, ◌∙◌, Option, None, Some, MatchOption, ap, sym, subst, codes, is_some, option_map}
-use Rattle.std.specs.Borrow.{Bor}
+use Rattle.std.proofs.Common.{◌≡◌, ◌∙◌, Option, None, Some, MatchOption, ap, sym, subst, codes, is_some}
 use Rattle.clap.specs.declared.parser.matches.ArgMatches.{ArgMatches}
-use Rattle.command_words.specs.Grammar.{Text, command_name, options, spelled, texts, value_of}
+use Rattle.command_words.specs.Grammar.{command_name, options, spelled, texts, value_of}
 use Rattle.command_words.specs.Giving.{Finds, text_of}
 use Rattle.command_words.proofs.ProgramLemmas.{flag_found, no_command, spelled_once, value_found}
 use Rattle.command_words.proofs.given.given_words.Goals as goal

@@ -1,4 +1,4 @@
-use Rattle.std.proofs.Common.{◌≡◌, rules, sym, ◌∙◌}
+use Rattle.std.proofs.Common.{◌∙◌}
 use Rattle.command_words.specs.Grammar.{texts}
 use Rattle.command_words.proofs.ProgramLemmas.{each_utf8, finds_in, refuses_in}
 use Rattle.command_words.proofs.given.parse.Goals as goal

@@ -1,4 +1,4 @@
-use Rattle.std.proofs.Common.{◌≡◌, ◌∙◌, ◌||◌, codes, is_some, not}
+use Rattle.std.proofs.Common.{◌∙◌, ◌||◌, codes, is_some, not}
 use Rattle.command_words.specs.Grammar.{has, value_of}
 use Rattle.command_words.proofs.OrderLemmas.{none_of, stands_as}
 use Rattle.command_words.proofs.order.has_key_alone.Goals as goal

@@ -1,4 +1,3 @@
-use Rattle.std.proofs.Common.{◌≡◌}
 use Rattle.command_words.proofs.OrderLemmas.{no_digits}
 use Rattle.command_words.proofs.order.replay_order.Goals as goal
 

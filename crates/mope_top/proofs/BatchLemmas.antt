@@ -8,7 +8,8 @@ use Rattle.workload.specs.Report.{report}
 use Rattle.mope_top.specs.Batch.{AreRight, ReportsAll, Refuses, HasText, StopsEarly, WritesOrMemory, usage_text, input_text}
 use Rattle.mope_top.specs.FirstForm.{IsFirstForm, IsNotFirstForm}
 use Rattle.mope_top.specs.FirstRun.{workload_of}
-use Rattle.mope_top.specs.Words.{AreNoWords}
+use Rattle.command_words.specs.Orders.{AreNoWords}
+use Rattle.command_words.specs.declared.order.Order.TheVariants.{Replay}
 use Rattle.mope_top.specs.declared.first_form.Statement.{Statement}
 use Rattle.mope_top.proofs.FirstFormLaws.{first_form_same}
 
@@ -42,7 +43,7 @@ pub text-first_form : (status : Status) (words : List (List ℕ)) (left : List �
     → AreRight words → IsFirstForm left statements → HasText status words (Some left) new text
     → (status ≡ Done) × (text ≡ report 0 (workload_of statements) [])
 text-first_form Done words left new text statements right form has = (refl, reports-first_form left new text statements form has.1)
-text-first_form Usage words left new text statements right form has = absurd (has.0 right.key right.words_are)
+text-first_form Usage words left new text statements right form has = absurd (has.0 (Replay right.key) right.words_are)
 text-first_form Input words left new text statements right form has = absurd (refuses-first_form left new statements form has.1)
 text-first_form Memory words left new text statements right form has = absurd has
 text-first_form ReadFault words left new text statements right form has = absurd has
@@ -54,7 +55,7 @@ pub text-not_first_form : (status : Status) (words : List (List ℕ)) (left : Li
     → (status ≡ Input) × (text ≡ input_text)
 text-not_first_form Done words left new text right form has =
     absurd (form has.1.reports.statements (subst (λ bytes. IsFirstForm bytes has.1.reports.statements) (sym (taken_all left new has.1.bytes has.1.all.taken has.1.all.ended)) has.1.reports.spelled))
-text-not_first_form Usage words left new text right form has = absurd (has.0 right.key right.words_are)
+text-not_first_form Usage words left new text right form has = absurd (has.0 (Replay right.key) right.words_are)
 text-not_first_form Input words left new text right form has = (refl, has.2)
 text-not_first_form Memory words left new text right form has = absurd has
 text-not_first_form ReadFault words left new text right form has = absurd has
@@ -63,9 +64,9 @@ text-not_first_form WriteFault words left new text right form has = absurd has
 -- with wrong words a text is their refusal
 pub text-wrong_words : (status : Status) (words : List (List ℕ)) (old new : Option (List ℕ)) (text : List ℕ)
     → AreNoWords words → HasText status words old new text → (status ≡ Usage) × (text ≡ usage_text)
-text-wrong_words Done words old new text wrong has = absurd (wrong has.0.key has.0.words_are)
+text-wrong_words Done words old new text wrong has = absurd (wrong (Replay has.0.key) has.0.words_are)
 text-wrong_words Usage words old new text wrong has = (refl, has.1)
-text-wrong_words Input words old new text wrong has = absurd (wrong has.0.key has.0.words_are)
+text-wrong_words Input words old new text wrong has = absurd (wrong (Replay has.0.key) has.0.words_are)
 text-wrong_words Memory words old new text wrong has = absurd has
 text-wrong_words ReadFault words old new text wrong has = absurd has
 text-wrong_words WriteFault words old new text wrong has = absurd has
@@ -77,7 +78,7 @@ stops-wrong_words Done words reads read wrong stops = absurd stops
 stops-wrong_words Usage words reads read wrong stops = absurd stops
 stops-wrong_words Input words reads read wrong stops = absurd stops
 stops-wrong_words Memory words reads read wrong stops = refl
-stops-wrong_words ReadFault words reads read wrong stops = absurd (wrong stops.0.key stops.0.words_are)
+stops-wrong_words ReadFault words reads read wrong stops = absurd (wrong (Replay stops.0.key) stops.0.words_are)
 stops-wrong_words WriteFault words reads read wrong stops = absurd stops
 
 -- a text that was written is the wanted one

@@ -2,7 +2,6 @@ pub mod DecimalFront
 pub mod StrippedFront
 pub mod FirstFormLines
 pub mod FirstFormLaws
-pub mod WordLemmas
 pub mod FirstRunLemmas
 mod BatchLemmas
 pub mod ReportLines

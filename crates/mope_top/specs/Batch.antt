@@ -15,13 +15,14 @@ use Rattle.workload.specs.Run.{run, turns_taken, IsComplete}
 use Rattle.workload.specs.History.{history, Serial}
 use Rattle.mope_top.specs.FirstForm.{IsFirstForm, IsNotFirstForm}
 use Rattle.mope_top.specs.FirstRun.{workload_of}
-use Rattle.mope_top.specs.Words.{AreWords, AreNoWords}
+use Rattle.command_words.specs.Orders.{AreWords, AreNoWords}
+use Rattle.command_words.specs.declared.order.Order.TheVariants.{Replay}
 use Rattle.mope_top.specs.declared.first_form.Statement.{Statement}
 
 -- the words are right
 pub record AreRight (words : List (List ℕ)) : Type 0 where
   pub key : Key
-  pub words_are : AreWords words key
+  pub words_are : AreWords words (Replay key)
 
 -- what the report of a run prints is one history: its turns are a complete list for the workload, and its transactions, in
 -- the order in which they stand, are those that a single thread could have made

@@ -1,6 +1,5 @@
 pub mod FirstForm
 pub mod FirstRun
-pub mod Words
 pub mod Batch
 pub mod FirstReport
 pub mod SealedItems

@@ -6,14 +6,15 @@ ghost use Rattle.mope_top.specs.Batch.{AreRight, Ends, Headline, HasText, IsJudg
 ghost use Rattle.mope_top.specs.Counts.{CountsFaults, CountsReads};
 ghost use Rattle.mope_top.specs.FirstForm.{IsFirstForm, IsNotFirstForm};
 ghost use Rattle.mope_top.specs.FirstRun.{workload_of};
-ghost use Rattle.mope_top.specs.Words.{AreNoWords, texts};
+ghost use Rattle.command_words.specs.Grammar.{texts};
+ghost use Rattle.command_words.specs.Orders.{AreNoWords};
 ghost use Rattle.mope_top.specs.declared.first_form.Statement.{Statement};
 
-use crate::command_words::read_words;
 use crate::first_form::Statement;
 use crate::first_report::first_report;
 use crate::replay::run_statements;
 use crate::statement_reader::read_first_form;
+use command_words::{Order, read_order};
 use mope_base::{OutOfMemory, ReadStop, Sink, Source, Status, read_all, write_all};
 use std::alloc::Global;
 use value_cipher::Key;
@@ -21,7 +22,7 @@ use value_cipher::Key;
 /// The most bytes that an input may have.
 const MAX_BYTES: usize = 67_108_864;
 
-/// Does what the words of the command line say: `replay --key K` reads a workload of the first form from `input`, runs
+/// Does what the words of the command line say: `replay` with `--key K` reads a workload of the first form from `input`, runs
 /// it, and writes its report to `out`. Nothing is written before the whole output stands.
 pub fn mope_batch<S: Source, K: Sink>(
     alloc: Global,
@@ -87,8 +88,10 @@ fn judge<S: Source>(alloc: Global, words: &[String], input: &mut S) -> Result<Ve
     ensures faults { S.faults input.old ≤ S.faults input.new }
     ensures counted { CountsReads result (S.faults input.old) (S.faults input.new) }
 {
-    let Some(key) = read_words(words) else {
-        return refusal(alloc, Status::Usage, b"error usage\n");
+    let Order::Replay { key } = match read_order(alloc, words) {
+        Ok(Some(order)) => order,
+        Ok(None) => return refusal(alloc, Status::Usage, b"error usage\n"),
+        Err(OutOfMemory) => return Err(Status::Memory),
     };
     match read_all(alloc, input, MAX_BYTES) {
         Ok(bytes) => judge_input(alloc, &key, bytes.as_slice()),

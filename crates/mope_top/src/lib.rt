@@ -3,7 +3,6 @@
 
 mod batch;
 mod code_counts;
-mod command_words;
 mod digits;
 mod first_form;
 mod first_report;

@@ -1,6 +1,6 @@
 use Rattle.std.proofs.Common.{◌∙◌, subst, inl, inr}
 use Rattle.mope_top.specs.Batch.{HasText}
-use Rattle.mope_top.specs.Words.{texts}
+use Rattle.command_words.specs.Grammar.{texts}
 use Rattle.mope_top.proofs.BatchLemmas.{text-first_form, text-not_first_form, text-wrong_words, stops-wrong_words, wrote}
 use Rattle.mope_top.proofs.batch.mope_batch.Goals as goal
 

@@ -1,0 +1,11 @@
+//! The words of the command line: which are right, and what they order.
+#![tactic(auto)]
+
+mod given;
+pub mod laws;
+mod order;
+
+pub use order::{Order, read_order};
+
+#[cfg(test)]
+mod tests;

@@ -1,4 +1,4 @@
-use Rattle.std.proofs.Common.{◌∙◌}
+use Rattle.std.proofs.Common.{◌∙◌, false}
 use Rattle.tree_model.specs.declared.Place.TheVariants.{Gap}
 use Rattle.tree_model.specs.Trees.{size}
 use Rattle.tree_model.specs.Columns.{Add, Lay, apply}
@@ -17,6 +17,6 @@ then-requires c =
         codes_of before.tree,
         changes_fit_in_turn before c.append.new.tree.column c.rebuild.new.self.column (Add (Gap (size before.tree)) body) (Lay) c.in_ok-earlier.earlier c.in_ok-later.later
             c.in_ok-added.ensures.column c.in_ok-balanced.ensures.column c.append.ensures.was_short c.append.ensures.short c.rebuild.ensures.short
-            (c.in_ok-earlier.ensures ∙ c.in_ok-added.ensures.change) (c.in_ok-later.ensures ∙ c.in_ok-balanced.ensures.change),
+            (c.in_ok-earlier.ensures ∙ c.in_ok-added.ensures.change) (c.in_ok-later.ensures ∙ c.in_ok-balanced.ensures.change false),
       );
     }

@@ -8,7 +8,8 @@ use Rattle.tree_model.proofs.Halves.{balanced-at_half, balanced-nil}
 use Rattle.mope_base.specs.declared.body.Body.{Body}
 use Rattle.ope_tree.specs.declared.nodes.Entry.{Entry}
 use Rattle.ope_tree.specs.declared.nodes.Node.{Node}
-use Rattle.ope_tree.specs.Nodes.{item_of, items_of_entries, tree_by, tree_of, IsLink, IsOlder, reach}
+use Rattle.ope_tree.specs.Nodes.{item_of, items_of_entries, tree_by, tree_of, IsLink, IsOlder}
+use Rattle.ope_tree.proofs.Reaching.{reach}
 use Rattle.ope_tree.specs.Built.{Extends, IsBuilt}
 use Rattle.ope_tree.proofs.Links.{tree_by-newest, tree_by-extended, extends_itself, extends_by_one, extends_twice}
 

@@ -1,3 +1,4 @@
+pub mod Reaching
 pub mod Links
 pub mod Builders
 pub mod Sound

@@ -51,11 +51,6 @@ unfoldable pub IsOlder : ℕ → Option ℕ → Type 0
 IsOlder at None = Unit {0}
 IsOlder at (Some child) = child < at
 
--- how far down the arena a link may lead: a number above its node's
-abbrev pub reach : Option ℕ → ℕ
-reach None = 0
-reach (Some at) = suc at
-
 -- what a node tells of its number
 pub record IsNodeAt (nodes : List Node) (at : ℕ) (n : Node) : Type 0 where
   pub left : IsLink nodes n.left

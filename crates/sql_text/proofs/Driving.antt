@@ -6,7 +6,7 @@ use Rattle.std.specs.Option.{option_map}
 use Rattle.std.specs.Result.{IfOk, MatchResult}
 use Rattle.sql_text.specs.Lexing.{Found, Placed, Fault, tokens_from, blank_or_token, first_token, with_first, token_at}
 use Rattle.sql_text.specs.Machine.{drive, go_on, step}
-use Rattle.sql_text.specs.Driven.{driven, place_in}
+use Rattle.sql_text.proofs.Driven.{driven, place_in}
 use Rattle.sql_text.specs.Scans.{seen, token_of, tokens_at, fault_of, is_blank_at, IsSeen}
 use Rattle.sql_text.specs.Words.{is_blank}
 use Rattle.sql_text.specs.declared.parsing.Reason.{Reason}

@@ -5,6 +5,7 @@ pub mod AddingWords
 pub mod Running
 pub mod Begun
 pub mod FrontWords
+pub mod Driven
 pub mod Driving
 pub mod Verdicts
 pub mod Sizes

@@ -7,7 +7,6 @@ pub mod Laws
 pub mod Examples
 pub mod Machine
 pub mod Scans
-pub mod Driven
 pub mod Marked
 pub mod Written
 pub mod FrameLines

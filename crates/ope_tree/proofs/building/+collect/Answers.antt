@@ -3,7 +3,8 @@ use Rattle.tree_model.specs.Trees.{Tree, inorder}
 use Rattle.tree_model.specs.Items.{Item}
 use Rattle.mope_base.specs.declared.body.Body.{Body}
 use Rattle.ope_tree.specs.declared.nodes.Entry.{Entry}
-use Rattle.ope_tree.specs.Nodes.{IsLink, item_of, items_of_entries, tree_of, reach}
+use Rattle.ope_tree.specs.Nodes.{IsLink, item_of, items_of_entries, tree_of}
+use Rattle.ope_tree.proofs.Reaching.{reach}
 use Rattle.ope_tree.proofs.Builders.{tree_by-none, reach-older, collected}
 use Rattle.ope_tree.proofs.building.+collect.Goals as goal
 

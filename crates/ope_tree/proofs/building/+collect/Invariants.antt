@@ -1,4 +1,4 @@
-use Rattle.ope_tree.specs.Nodes.{reach}
+use Rattle.ope_tree.proofs.Reaching.{reach}
 use Rattle.ope_tree.proofs.building.+collect.Given as goal
 
 abbrev pub decreases-collect : goal.decreases-collect

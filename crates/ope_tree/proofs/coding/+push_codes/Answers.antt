@@ -6,7 +6,8 @@ use Rattle.tree_model.specs.Items.{Item}
 use Rattle.path_code.specs.Ways.{way}
 use Rattle.mope_base.specs.declared.body.Body.{Body}
 use Rattle.code_changes.specs.Removal.{codes_along}
-use Rattle.ope_tree.specs.Nodes.{IsLink, item_of, tree_of, reach}
+use Rattle.ope_tree.specs.Nodes.{IsLink, item_of, tree_of}
+use Rattle.ope_tree.proofs.Reaching.{reach}
 use Rattle.ope_tree.proofs.Builders.{tree_by-none, reach-older}
 use Rattle.ope_tree.proofs.CodeLists.{coded, codes_along-leaf}
 use Rattle.ope_tree.proofs.coding.+push_codes.Goals as goal

@@ -1,7 +1,8 @@
 use Rattle.std.proofs.Common.{◌≡◌, ℕ, suc, Option, ap, ◌∙◌, sym, arith}
 use Rattle.std.proofs.lemmas.Result.{IfOk-weaker}
 use Rattle.tree_model.specs.Trees.{node}
-use Rattle.ope_tree.specs.Nodes.{item_of, tree_of, reach}
+use Rattle.ope_tree.specs.Nodes.{item_of, tree_of}
+use Rattle.ope_tree.proofs.Reaching.{reach}
 use Rattle.ope_tree.specs.Built.{IsBuilt}
 use Rattle.ope_tree.proofs.Links.{IsLink-extended}
 use Rattle.ope_tree.proofs.Builders.{reach-older, built_nothing, built_same, built_over}

@@ -1,4 +1,4 @@
-use Rattle.ope_tree.specs.Nodes.{reach}
+use Rattle.ope_tree.proofs.Reaching.{reach}
 use Rattle.ope_tree.proofs.dropping.+lower_count.Given as goal
 
 abbrev pub decreases-lower_count : goal.decreases-lower_count

@@ -1,4 +1,4 @@
-use Rattle.ope_tree.specs.Nodes.{reach}
+use Rattle.ope_tree.proofs.Reaching.{reach}
 use Rattle.ope_tree.proofs.grafting.+graft.Given as goal
 
 abbrev pub decreases-graft : goal.decreases-graft

@@ -1,4 +1,4 @@
-use Rattle.ope_tree.specs.Nodes.{reach}
+use Rattle.ope_tree.proofs.Reaching.{reach}
 use Rattle.ope_tree.proofs.grafting.+replace_item.Given as goal
 
 abbrev pub decreases-replace_item : goal.decreases-replace_item

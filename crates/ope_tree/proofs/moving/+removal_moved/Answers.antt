@@ -5,7 +5,8 @@ use Rattle.tree_model.specs.Trees.{Tree, height, size}
 use Rattle.tree_model.specs.Items.{Item}
 use Rattle.mope_base.specs.declared.body.Body.{Body}
 use Rattle.path_code.specs.Ways.{way}
-use Rattle.ope_tree.specs.Nodes.{item_of, tree_of, reach}
+use Rattle.ope_tree.specs.Nodes.{item_of, tree_of}
+use Rattle.ope_tree.proofs.Reaching.{reach}
 use Rattle.ope_tree.proofs.Builders.{reach-older}
 use Rattle.ope_tree.proofs.LinkCases.{no_tree, node_of_link}
 use Rattle.code_changes.specs.Removal.{removal_moved}

@@ -1,4 +1,4 @@
-use Rattle.ope_tree.specs.Nodes.{reach}
+use Rattle.ope_tree.proofs.Reaching.{reach}
 use Rattle.ope_tree.proofs.moving.+removal_moved.Given as goal
 
 abbrev pub decreases-removal_moved : goal.decreases-removal_moved

@@ -1,5 +1,6 @@
 use Rattle.std.proofs.Common.{◌≡◌, ◌-◌, ℕ, suc, Option, arith, ap, ◌∙◌}
-use Rattle.ope_tree.specs.Nodes.{item_of, tree_of, reach}
+use Rattle.ope_tree.specs.Nodes.{item_of, tree_of}
+use Rattle.ope_tree.proofs.Reaching.{reach}
 use Rattle.ope_tree.proofs.Builders.{reach-older}
 use Rattle.ope_tree.proofs.LinkCases.{no_tree, node_of_link}
 use Rattle.ope_tree.proofs.Walking.{item-left, item-here, item-right, item-none}

@@ -1,4 +1,4 @@
-use Rattle.ope_tree.specs.Nodes.{reach}
+use Rattle.ope_tree.proofs.Reaching.{reach}
 use Rattle.ope_tree.proofs.reading.+entry_at.Given as goal
 
 abbrev pub decreases-entry_at : goal.decreases-entry_at

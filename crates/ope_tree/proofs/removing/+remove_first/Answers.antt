@@ -2,7 +2,8 @@ use Rattle.std.proofs.Common.{◌≡◌, ℕ, suc, Option, arith, sym, ap, ◌�
 use Rattle.tree_model.specs.Trees.{Tree}
 use Rattle.tree_model.specs.Items.{Item}
 use Rattle.mope_base.specs.declared.body.Body.{Body}
-use Rattle.ope_tree.specs.Nodes.{item_of, tree_of, reach}
+use Rattle.ope_tree.specs.Nodes.{item_of, tree_of}
+use Rattle.ope_tree.proofs.Reaching.{reach}
 use Rattle.ope_tree.proofs.Links.{IsLink-extended}
 use Rattle.ope_tree.proofs.Builders.{reach-older, built_before, built_same, built_left_as}
 use Rattle.ope_tree.proofs.LinkCases.{no_tree, node_of_link}

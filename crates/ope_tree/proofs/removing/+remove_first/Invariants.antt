@@ -1,4 +1,4 @@
-use Rattle.ope_tree.specs.Nodes.{reach}
+use Rattle.ope_tree.proofs.Reaching.{reach}
 use Rattle.ope_tree.proofs.removing.+remove_first.Given as goal
 
 abbrev pub decreases-remove_first : goal.decreases-remove_first

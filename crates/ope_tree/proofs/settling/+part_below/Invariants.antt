@@ -1,4 +1,4 @@
-use Rattle.ope_tree.specs.Nodes.{reach}
+use Rattle.ope_tree.proofs.Reaching.{reach}
 use Rattle.ope_tree.proofs.settling.+part_below.Given as goal
 
 abbrev pub decreases-part_below : goal.decreases-part_below

@@ -4,7 +4,8 @@ use Rattle.tree_model.specs.declared.Place.TheVariants.{Found}
 use Rattle.tree_model.specs.Trees.{Tree, node, size, path}
 use Rattle.tree_model.specs.Items.{Item}
 use Rattle.mope_base.specs.declared.body.Body.{Body}
-use Rattle.ope_tree.specs.Nodes.{item_of, tree_of, reach}
+use Rattle.ope_tree.specs.Nodes.{item_of, tree_of}
+use Rattle.ope_tree.proofs.Reaching.{reach}
 use Rattle.ope_tree.proofs.Builders.{reach-older}
 use Rattle.ope_tree.proofs.LinkCases.{no_tree, node_of_link}
 use Rattle.tree_model.specs.Insertion.{child}

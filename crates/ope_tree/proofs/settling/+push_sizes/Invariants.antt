@@ -1,4 +1,4 @@
-use Rattle.ope_tree.specs.Nodes.{reach}
+use Rattle.ope_tree.proofs.Reaching.{reach}
 use Rattle.ope_tree.proofs.settling.+push_sizes.Given as goal
 
 abbrev pub decreases-push_sizes : goal.decreases-push_sizes

@@ -1,5 +1,6 @@
 use Rattle.std.proofs.Common.{◌≡◌, ◌-◌, ℕ, suc, take, Option, arith, sym, ap, ◌∙◌}
-use Rattle.ope_tree.specs.Nodes.{item_of, tree_of, reach}
+use Rattle.ope_tree.specs.Nodes.{item_of, tree_of}
+use Rattle.ope_tree.proofs.Reaching.{reach}
 use Rattle.ope_tree.proofs.Links.{IsLink-extended}
 use Rattle.ope_tree.proofs.Builders.{reach-older, built_before, built_same, built_left_as, built_right_as}
 use Rattle.ope_tree.proofs.LinkCases.{no_tree, node_of_link}

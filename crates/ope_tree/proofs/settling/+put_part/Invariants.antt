@@ -1,4 +1,4 @@
-use Rattle.ope_tree.specs.Nodes.{reach}
+use Rattle.ope_tree.proofs.Reaching.{reach}
 use Rattle.ope_tree.proofs.settling.+put_part.Given as goal
 
 abbrev pub decreases-put_part : goal.decreases-put_part

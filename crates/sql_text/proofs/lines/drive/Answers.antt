@@ -1,6 +1,6 @@
 use Rattle.std.proofs.Common.{◌≤◌, ◌<◌, ◌+◌, length, rules, arith, ◌∙◌, ap, sym}
 use Rattle.sql_text.proofs.Driving.{none_left, driven_on, driven_wrong, driven_fault, driven_end}
-use Rattle.sql_text.specs.Driven.{driven}
+use Rattle.sql_text.proofs.Driven.{driven}
 use Rattle.sql_text.specs.declared.states.State.TheVariants.{Start}
 use Rattle.sql_text.proofs.lines.drive.Goals as goal
 

@@ -1,7 +1,7 @@
 use Rattle.std.proofs.Common.{◌≡◌, ℕ, ◌<◌, ◌-◌, List, Some, Ok, ◌∙◌, ap, sym, arith}
 use Rattle.std.specs.List.{slice_get}
 use Rattle.sql_text.proofs.Driving.{none_left, place_later, place_here, place_fault, place_none, place_some}
-use Rattle.sql_text.specs.Driven.{place_in}
+use Rattle.sql_text.proofs.Driven.{place_in}
 use Rattle.sql_text.specs.Lexing.{Placed, tokens_of}
 use Rattle.sql_text.specs.Scans.{tokens_at}
 use Rattle.sql_text.proofs.lines.place_of.Goals as goal

@@ -1,5 +1,5 @@
 use Rattle.std.proofs.Common.{◌≡◌, ◌<◌, ◌≤◌, ◌-◌, length, false}
-use Rattle.sql_text.specs.Driven.{place_in}
+use Rattle.sql_text.proofs.Driven.{place_in}
 use Rattle.sql_text.specs.Lexing.{tokens_of}
 use Rattle.sql_text.specs.Scans.{is_blank_at, tokens_at}
 use Rattle.sql_text.proofs.lines.place_of.Given as goal

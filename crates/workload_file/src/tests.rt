@@ -1,5 +1,5 @@
 //! Files that are read, and every reason why one isn't.
-use crate::{FileReason, FileStop, read_workload};
+use crate::{FileReason, FileStop, generate, read_workload};
 use std::alloc::Global;
 use std::test::Fail;
 
@@ -179,5 +179,14 @@ fn three_hundred_thousand_lines(rt: HostRuntime) -> Result<(), Fail> {
     let w = read_workload(alloc, &file).expect(&rt, "a workload");
     let session = w.sessions.as_slice().first().expect(&rt, "a session");
     assert_eq!(rt; session.as_slice().len(), 300_000);
+    Ok(())
+}
+
+// The worked example of a generated text: the first draw of the number 0 gives a REBUILD.
+#[test]
+fn generate_one(rt: HostRuntime) -> Result<(), Fail> {
+    let text = generate(rt.alloc(), 0, 1, 1).expect(&rt, "a text");
+    let wanted = "mope 1\nTABLE g (a, b)\nSESSION\nREBUILD g (a)\nEND\n";
+    assert_eq!(rt; text.as_slice(), wanted.as_bytes());
     Ok(())
 }

@@ -26,7 +26,7 @@ pub fn generate(
     put_line(&mut text, b"mope 1")?;
     put_line(&mut text, b"TABLE g (a, b)")?;
     let mut state = number;
-    'sessions: for _ in 0..sessions {
+    'sessions: for _i in 0..sessions {
         state = put_session(alloc, &mut text, transactions, state)?;
     }
     put_line(&mut text, b"END")?;
@@ -64,7 +64,7 @@ fn put_transactions(
     ensures state { IfOk result (λ state. state ≡ (transactions_of transactions before).state) }
 {
     let mut state = before;
-    'transactions: for _ in 0..transactions {
+    'transactions: for _i in 0..transactions {
         let draft = transaction(alloc, state)?;
         put_statements(alloc, text, draft.statements.as_slice())?;
         state = draft.state;
@@ -83,5 +83,6 @@ fn put_session(
     ensures state { IfOk result (λ state. state ≡ (transactions_of transactions before).state) }
 {
     put_line(text, b"SESSION")?;
-    put_transactions(alloc, text, transactions, before)
+    let state = put_transactions(alloc, text, transactions, before)?;
+    Ok(state)
 }

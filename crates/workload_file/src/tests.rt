@@ -190,3 +190,36 @@ fn generate_one(rt: HostRuntime) -> Result<(), Fail> {
     assert_eq!(rt; text.as_slice(), wanted.as_bytes());
     Ok(())
 }
+
+/// The text begins and ends with these, and has so many bytes.
+fn is_framed(text: &[u8], front: &str, back: &str, size: usize) -> bool {
+    text.len() == size && text.starts_with(front.as_bytes()) && text.ends_with(back.as_bytes())
+}
+
+// The sizes and the ends were computed by a script of another language.
+#[test]
+fn generated_texts(rt: HostRuntime) -> Result<(), Fail> {
+    let alloc = rt.alloc();
+    let text = generate(alloc, 7, 4, 50).expect(&rt, "a text");
+    let front = "mope 1\nTABLE g (a, b)\nSESSION\nBEGIN\nINSERT INTO g VALUES (231, 856753)\n";
+    let back = "INSERT INTO g VALUES (960, 327879)\nEND\n";
+    assert!(rt; is_framed(text.as_slice(), front, back, 9100));
+    let text = generate(alloc, 18446744073709551615, 2, 12).expect(&rt, "a text");
+    let front =
+        "mope 1\nTABLE g (a, b)\nSESSION\nSELECT COUNT(*) FROM g WHERE a BETWEEN 343 AND 677\n";
+    let back = "INSERT INTO g VALUES (806, 917759)\nINSERT INTO g VALUES (867, 844028)\nEND\n";
+    assert!(rt; is_framed(text.as_slice(), front, back, 1062));
+    Ok(())
+}
+
+// What is generated is read.
+#[test]
+fn generated_is_read(rt: HostRuntime) -> Result<(), Fail> {
+    let text = generate(rt.alloc(), 3, 2, 40).expect(&rt, "a text");
+    let w = read_workload(rt.alloc(), text.as_slice()).expect(&rt, "a workload");
+    assert_eq!(rt; w.sessions.as_slice().len(), 2);
+    for script in w.sessions.as_slice() {
+        assert_eq!(rt; script.as_slice().len(), 40);
+    }
+    Ok(())
+}

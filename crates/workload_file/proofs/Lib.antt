@@ -5,3 +5,4 @@ pub mod ValidLines
 pub mod ValidActs
 pub mod ValidSteps
 pub mod TextLemmas
+pub mod ShapeLemmas

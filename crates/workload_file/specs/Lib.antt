@@ -5,3 +5,6 @@ pub mod Steps
 pub mod WorkloadFile
 pub mod Theorems
 pub mod GeneratedText
+pub mod Shapes
+pub mod TwinFile
+pub mod LineTexts

@@ -9,13 +9,18 @@ mod lines;
 mod names;
 mod reader;
 mod reading;
+mod shapes;
 mod stops;
 mod tables;
+mod twin;
 mod verbs;
 
 pub use generator::generate;
 pub use reading::read_workload;
 pub use stops::{FileReason, FileStop};
+pub use twin::read_twin;
 
 #[cfg(test)]
 mod tests;
+#[cfg(test)]
+mod twin_tests;

@@ -6,3 +6,12 @@ pub mod ValidActs
 pub mod ValidSteps
 pub mod TextLemmas
 pub mod ShapeLemmas
+pub mod AgainFront
+pub mod AgainTokens
+pub mod AgainLines
+pub mod AgainBytes
+pub mod CanonicalLines
+pub mod GeneratedStatements
+pub mod CleanLines
+pub mod GeneratedRun
+pub mod GeneratedWhole

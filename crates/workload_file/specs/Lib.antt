@@ -8,3 +8,4 @@ pub mod GeneratedText
 pub mod Shapes
 pub mod TwinFile
 pub mod LineTexts
+pub mod GeneratedLaws

@@ -1,4 +1,5 @@
 //! Laws of files. Each function is empty: its contract is the law.
+ghost use Rattle.workload_file.specs.GeneratedLaws.{GeneratedIsAWorkload};
 ghost use Rattle.workload_file.specs.Theorems.{FilesGiveOneVerdict, WorkloadsReadAreValid};
 
 /// The bytes of a file give one verdict at most: one workload, or one line with one reason.
@@ -10,4 +11,10 @@ pub fn files_give_one_verdict()
 /// lists are within their limits, and its statements are about tables and columns that it declares.
 pub fn workloads_read_are_valid()
     ensures { WorkloadsReadAreValid }
+{}
+
+/// The text that is generated from a number spells a valid workload, with as many sessions and transactions as were
+/// asked for.
+pub fn generated_is_a_workload()
+    ensures { GeneratedIsAWorkload }
 {}

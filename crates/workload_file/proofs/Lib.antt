@@ -15,3 +15,9 @@ pub mod GeneratedStatements
 pub mod CleanLines
 pub mod GeneratedRun
 pub mod GeneratedWhole
+pub mod TwinReading
+pub mod TwinSaid
+pub mod AgainStyles
+pub mod ShapeTexts
+pub mod TwinEnds
+pub mod TwinVerdicts

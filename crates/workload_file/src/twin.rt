@@ -29,8 +29,14 @@ pub fn read_twin(alloc: Global, bytes: &[u8]) -> Result<(Workload, Workload), Fi
         let reason = FileReason::InputTooLong;
         return Err(FileStop::Bad { line: 0, reason });
     }
-    let (first, rest, number) = read_first(alloc, bytes)?;
-    let second = read_lines(alloc, rest, number)?;
+    let (first, rest, number) = match read_first(alloc, bytes) {
+        Ok(read) => read,
+        Err(stop) => return Err(stop),
+    };
+    let second = match read_lines(alloc, rest, number) {
+        Ok(second) => second,
+        Err(stop) => return Err(stop),
+    };
     match first_difference(alloc, bytes, rest, number)? {
         Some(line) => {
             let reason = FileReason::ShapesDiffer;

@@ -21,3 +21,5 @@ pub mod AgainStyles
 pub mod ShapeTexts
 pub mod TwinEnds
 pub mod TwinVerdicts
+pub mod GrammarRead
+pub mod GrammarRun

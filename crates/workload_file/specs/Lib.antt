@@ -9,3 +9,4 @@ pub mod Shapes
 pub mod TwinFile
 pub mod LineTexts
 pub mod GeneratedLaws
+pub mod WorkloadGrammar

@@ -98,7 +98,7 @@ act_within tables sessions pieces acts s a rest w says within = record {
   lines_are = ap (λ (ls : List Line). Stated s ∷ ls) within.lines_are;
   acts_said = (says, within.acts_said);
   on =
-      subst (λ (as : List Act). RunsOn tables sessions (pieces ++ piece.Txn as within.rollback ∷ []) within.rest w) (append_assoc acts (a ∷ []) within.more) within.on;
+      subst (λ (all : List Act). RunsOn tables sessions (pieces ++ piece.Txn all within.rollback ∷ []) within.rest w) (append_assoc acts (a ∷ []) within.more) within.on;
 }
 
 pub transaction_ended : (tables : List Decl) (sessions : List (List Piece)) (pieces : List Piece) (acts : List Act) (rollback : Bool) (rest : List Line) (w : Workload)
@@ -111,7 +111,7 @@ transaction_ended tables sessions pieces acts rollback rest w on = record {
   rest = rest;
   lines_are = refl;
   acts_said = tt;
-  on = subst (λ (as : List Act). RunsOn tables sessions (pieces ++ piece.Txn as rollback ∷ []) rest w) (sym (append-nil acts)) on;
+  on = subst (λ (all : List Act). RunsOn tables sessions (pieces ++ piece.Txn all rollback ∷ []) rest w) (sym (append-nil acts)) on;
 }
 
 pub session_on : (tables : List Decl) (sessions : List (List Piece)) (pieces : List Piece) (rest : List Line) (w : Workload) → RunsOn tables (sessions ++ pieces ∷ []) [] rest w

@@ -26,6 +26,7 @@ use Rattle.workload_file.specs.declared.reader.Stage.{Stage}
 use Rattle.workload_file.specs.declared.reader.Stage.TheVariants.{Opening, Declaring, Session, Ended}
 use Rattle.workload_file.specs.declared.stops.FileReason.{FileReason}
 use Rattle.workload_file.specs.declared.stops.FileReason.TheVariants as reason
+use Rattle.workload_file.proofs.TwinEnds.{fault_taken, goes_on}
 use Rattle.workload_file.proofs.GrammarRead.{Declares, RunsOn, RunsWithin, act_alone, act_within, first_session, header_on, no_session, rebuild_alone, session_last, session_on, table_on, transaction_begun, transaction_ended}
 
 -- behind END
@@ -45,7 +46,8 @@ Tail Ended tables sessions said w = IsDone tables sessions said w
 abbrev TailOf : Reader → List Line → Workload → Type 0
 TailOf reader said w = Tail reader.stage reader.tables reader.sessions said w
 
-came_to : (tables : List Decl) (sessions : List (List Piece)) (stage : Stage) (next : Reader) (rest : List Line) (w : Workload) → Ok (at tables sessions stage) ≡ Ok next → TailOf next rest w → Tail stage tables sessions rest w
+came_to : (tables : List Decl) (sessions : List (List Piece)) (stage : Stage) (next : Reader) (rest : List Line) (w : Workload) → ◌≡◌ {A = Result Reader FileReason} (Ok (at tables sessions stage)) (Ok next)
+    → TailOf next rest w → Tail stage tables sessions rest w
 came_to tables sessions stage next rest w e t = (let same : at tables sessions stage ≡ next = cc in subst (λ (r : Reader). TailOf r rest w) (sym same) t)
 
 never : {A : Type 0} (why : FileReason) (next : Reader) → Err why ≡ Ok next → A
@@ -109,7 +111,7 @@ framed_step tables sessions pieces unfinished frame.Session next rest w e t = se
 framed_step tables sessions pieces unfinished frame.End next rest w e t = end_step tables sessions pieces unfinished next rest w e t
 
 -- statements
-stage_tail : (tables : List Decl) (sessions : List (List Piece)) (stage next : Stage) (rest : List Line) (w : Workload) → Ok stage ≡ Ok next → Tail next tables sessions rest w → Tail stage tables sessions rest w
+stage_tail : (tables : List Decl) (sessions : List (List Piece)) (stage next : Stage) (rest : List Line) (w : Workload) → ◌≡◌ {A = Result Stage FileReason} (Ok stage) (Ok next) → Tail next tables sessions rest w → Tail stage tables sessions rest w
 stage_tail tables sessions stage next rest w e t = (let same : stage ≡ next = cc in subst (λ (s : Stage). Tail s tables sessions rest w) (sym same) t)
 
 act_step : (tables : List Decl) (sessions : List (List Piece)) (pieces : List Piece) (unfinished : Option (List Act)) (s : Stmt) (r : Result Act FileReason) (stage : Stage) (rest : List Line) (w : Workload)
@@ -192,3 +194,68 @@ stated_step Opening tables sessions s next rest w e t = never reason.Syntax next
 stated_step Declaring tables sessions s next rest w e t = never reason.Syntax next e
 stated_step (Session pieces unfinished) tables sessions s next rest w e t = with_stage_step tables sessions pieces unfinished s (stated tables pieces unfinished s) next rest w refl e t
 stated_step Ended tables sessions s next rest w e t = never reason.TextAfterEnd next e
+
+blank_same : (stage : Stage) (tables : List Decl) (sessions : List (List Piece)) (next : Reader) (rest : List Line) (w : Workload) → take_at stage tables sessions Blank ≡ Ok next → TailOf next rest w → Tail stage tables sessions rest w
+unfolding take_at opened declaring in_session after_end
+blank_same Opening tables sessions next rest w e t = came_to tables sessions Opening next rest w e t
+blank_same Declaring tables sessions next rest w e t = came_to tables sessions Declaring next rest w e t
+blank_same (Session pieces unfinished) tables sessions next rest w e t = came_to tables sessions (Session pieces unfinished) next rest w e t
+blank_same Ended tables sessions next rest w e t = came_to tables sessions Ended next rest w e t
+
+-- what the lines of a run say
+abbrev said_of : SaidLine → Line
+said_of line = line.said
+
+record Says (n : ℕ) (reader : Reader) (lines : List (List ℕ)) (w : Workload) : Type 0 where
+  all : List SaidLine
+  says : Say n lines all
+  tail : TailOf reader (map said_of all) w
+
+line_says : (n : ℕ) (line : List ℕ) (lines : List (List ℕ)) (reader next : Reader) (said : Line) (w : Workload) → IsLine (without_return line) said → take reader said ≡ Ok next → Says (suc n) next lines w → Says n reader (line ∷ lines) w
+unfolding take Say Follows
+line_says n line lines reader next Blank w is e later = record {
+  all = later.all;
+  says = (Blank, is, later.says);
+  tail = blank_same reader.stage reader.tables reader.sessions next (map said_of later.all) w e later.tail;
+}
+line_says n line lines reader next (Framed f) w is e later = record {
+  all = record { number = n; said = Framed f } ∷ later.all;
+  says = (Framed f, is, (later.all, later.says, refl));
+  tail = frame_step reader.stage reader.tables reader.sessions f next (map said_of later.all) w e later.tail;
+}
+line_says n line lines reader next (Stated s) w is e later = record {
+  all = record { number = n; said = Stated s } ∷ later.all;
+  says = (Stated s, is, (later.all, later.says, refl));
+  tail = stated_step reader.stage reader.tables reader.sessions s next (map said_of later.all) w e later.tail;
+}
+line_says n line lines reader next (Faulty r) w is e later = absurd (fault_taken reader.stage reader.tables reader.sessions r next e)
+
+ended_tail : (stage : Stage) (n : ℕ) (reader : Reader) (w : Workload) → Ok w ≡ ended_at stage n reader → Tail stage reader.tables reader.sessions [] w
+unfolding ended_at Tail
+ended_tail Opening n reader w e = absurd (let no : ⊥ = cc in no)
+ended_tail Declaring n reader w e = absurd (let no : ⊥ = cc in no)
+ended_tail (Session pieces unfinished) n reader w e = absurd (let no : ⊥ = cc in no)
+ended_tail Ended n reader w e =
+    let same : w ≡ record { tables = reader.tables; sessions = reader.sessions } = cc in
+    record { none = refl; tables_are = ap (λ (v : Workload). v.tables) same; sessions_are = ap (λ (v : Workload). v.sessions) same }
+
+run_says : (n : ℕ) (reader : Reader) (lines : List (List ℕ)) (w : Workload) → Leads n reader lines (Ok w) → Says n reader lines w
+unfolding Leads Say
+run_says n reader [] w leads = record { all = []; says = refl; tail = ended_tail reader.stage n reader w leads }
+run_says n reader (line ∷ lines) w leads =
+    let on = goes_on (λ after. Leads (suc n) after lines (Ok w)) n leads.0 w leads.2 in
+    line_says n line lines reader on.0 leads.1.said w leads.1.is_line (sym leads.1.taken ∙ on.1) (run_says (suc n) on.0 lines w on.2)
+
+pub run_is_spelled : (lines : List (List ℕ)) (w : Workload) → Leads 1 start lines (Ok w) → IsSpelledBy lines w
+unfolding start Tail
+run_is_spelled lines w leads =
+    let says = run_says 1 start lines w leads in
+    record { all = says.all; says = says.says; spelled = says.tail refl refl }
+
+spelled_by : (long : Bool) (bytes : List ℕ) (w : Workload) → GivesUnless long bytes (Ok w) → IsSpelledBy (lines_of bytes) w
+unfolding GivesUnless
+spelled_by true bytes w gives = absurd (let no : ⊥ = cc in no)
+spelled_by false bytes w gives = run_is_spelled (lines_of bytes) w gives
+
+pub read_is_spelled : (bytes : List ℕ) (w : Workload) → IsWorkloadFile bytes w → IsSpelledBy (lines_of bytes) w
+read_is_spelled bytes w gives = spelled_by (is_too_long bytes) bytes w gives

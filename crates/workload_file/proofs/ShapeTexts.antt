@@ -119,10 +119,11 @@ statement_right (stmt.Insert table values) are =
 statement_right (stmt.Delete table conds) are = (tt, (tt, (are.1.1.0, conds_right conds are.1.1.1)))
 statement_right (stmt.Select what table conds order limit) are =
     let front = tokens_parts (what_tokens what) (Fixed mark.From ∷ Named table ∷ (where_tokens conds ++ (order_tokens false order ++ limit_tokens limit))) are.1 in
-    let middle = tokens_parts (where_tokens conds) (order_tokens false order ++ limit_tokens limit) front.1.1.1 in
-    (tt,
-    tokens_append (what_tokens what) (Fixed mark.From ∷ Named table ∷ (where_tokens (map cond_shape conds) ++ (order_tokens false order ++ limit_tokens limit))) front.0
-    (tt, (front.1.1.0, tokens_append (where_tokens (map cond_shape conds)) (order_tokens false order ++ limit_tokens limit) (conds_right conds middle.0) middle.1)))
+    let middle = tokens_parts (where_tokens conds) (order_tokens false order ++ limit_tokens limit) front.1.1.1 in (
+      tt,
+      tokens_append (what_tokens what) (Fixed mark.From ∷ Named table ∷ (where_tokens (map cond_shape conds) ++ (order_tokens false order ++ limit_tokens limit))) front.0
+          (tt, (front.1.1.0, tokens_append (where_tokens (map cond_shape conds)) (order_tokens false order ++ limit_tokens limit) (conds_right conds middle.0) middle.1)),
+    )
 
 some_zeros : (values : List ℕ) → HasSome values → HasSome (map zero_of values)
 some_zeros [] some = some

@@ -49,7 +49,7 @@ after_blank tables sessions (Framed f) next e = absurd (let no : ⊥ = cc in no)
 after_blank tables sessions (Stated s) next e = absurd (let no : ⊥ = cc in no)
 after_blank tables sessions (Faulty r) next e = absurd (let no : ⊥ = cc in no)
 
-goes_on : (P : Reader → Type 0) (n : ℕ) (next : Result Reader FileReason) (w : Workload) → Goes n next P (Ok w) → (after : Reader) × (next ≡ Ok after) × P after
+pub goes_on : (P : Reader → Type 0) (n : ℕ) (next : Result Reader FileReason) (w : Workload) → Goes n next P (Ok w) → (after : Reader) × (next ≡ Ok after) × P after
 unfolding Goes
 goes_on P n (Ok after) w goes = (after, refl, goes)
 goes_on P n (Err why) w goes = absurd (let no : ⊥ = cc in no)
@@ -79,7 +79,7 @@ end_taken Declaring tables sessions next e = (let same : at tables sessions Ende
 end_taken (Session pieces unfinished) tables sessions next e = at_ended tables (session_ended sessions pieces unfinished) next e
 end_taken Ended tables sessions next e = absurd (let no : ⊥ = cc in no)
 
-fault_taken : (stage : Stage) (tables : List Decl) (sessions : List (List Piece)) (r : Reason) (next : Reader) → take_at stage tables sessions (Faulty r) ≡ Ok next → ⊥
+pub fault_taken : (stage : Stage) (tables : List Decl) (sessions : List (List Piece)) (r : Reason) (next : Reader) → take_at stage tables sessions (Faulty r) ≡ Ok next → ⊥
 unfolding take_at opened declaring in_session after_end
 fault_taken Opening tables sessions r next e = (let no : ⊥ = cc in no)
 fault_taken Declaring tables sessions r next e = (let no : ⊥ = cc in no)

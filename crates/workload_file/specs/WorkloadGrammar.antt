@@ -14,7 +14,7 @@ use Rattle.workload.specs.declared.script.Piece.TheVariants as piece
 use Rattle.workload.specs.declared.script.Workload.{Workload}
 use Rattle.workload_file.specs.Resolving.{deleted, inserted, rebuilt, selected}
 use Rattle.workload_file.specs.TwinFile.{SaidLine, Say}
-use Rattle.workload_file.specs.WorkloadFile.{lines_of}
+use Rattle.workload_file.specs.WorkloadFile.{IsWorkloadFile, lines_of}
 use Rattle.workload_file.specs.declared.lines.Line.{Line}
 use Rattle.workload_file.specs.declared.lines.Line.TheVariants.{Framed, Stated}
 
@@ -92,3 +92,7 @@ pub record IsSpelledBy (lines : List (List ℕ)) (w : Workload) : Type 0 where
   pub all : List SaidLine
   pub says : Say 1 lines all
   pub spelled : SpellWorkload (map (λ (line : SaidLine). line.said) all) w
+
+-- a workload that is read is what the lines say
+abbrev pub WorkloadsReadAreSpelled : Type 0
+WorkloadsReadAreSpelled = (bytes : List ℕ) (w : Workload) → IsWorkloadFile bytes w → IsSpelledBy (lines_of bytes) w

@@ -5,7 +5,11 @@ use std::test::Fail;
 
 /// The first line of a file that has a fault, and its first reason.
 fn refused(alloc: Global, file: &str) -> Option<(u64, FileReason)> {
-    match read_workload(alloc, file.as_bytes()) {
+    refused_bytes(alloc, file.as_bytes())
+}
+
+fn refused_bytes(alloc: Global, file: &[u8]) -> Option<(u64, FileReason)> {
+    match read_workload(alloc, file) {
         Err(FileStop::Bad { line, reason }) => Some((line, reason)),
         _ => None,
     }
@@ -139,6 +143,81 @@ fn every_reason_before_its_neighbour(rt: HostRuntime) {
     ] {
         assert_eq!(rt; refused(rt.alloc(), file), Some((line, reason)));
     }
+}
+
+// Each reason once more, where the next one that can would hold too.
+#[test]
+fn every_reason_again(rt: HostRuntime) {
+    for (file, line, reason) in [
+        ("mope 1\nEND\n1a", 3, FileReason::TextAfterEnd),
+        (
+            "mope 1\nSESSION\nSELECT 0\x7f01\nEND",
+            3,
+            FileReason::BadByte,
+        ),
+        (
+            "mope 1\nSESSION\nDELETE 1_ 18446744073709551616\nEND",
+            3,
+            FileReason::BadToken,
+        ),
+        (
+            "mope 1\nSESSION\nDELETE 18446744073709551616 WHERE\nEND",
+            3,
+            FileReason::TooLarge,
+        ),
+        (
+            "mope 1\nSESSION\nSELECT a,b,c,d,e,f,g,h,i FROM\nEND",
+            3,
+            FileReason::Syntax,
+        ),
+        (
+            "mope 1\nTABLE t (a,b,c,d,e,f,g,h,a)\nEND",
+            2,
+            FileReason::TooMany,
+        ),
+        (
+            "mope 1\nTABLE t (a)\nTABLE t (a,a)\nEND",
+            3,
+            FileReason::RepeatedName,
+        ),
+        (
+            "mope 1\nTABLE t (a)\nSESSION\nBEGIN\nREBUILD u (x)\nEND",
+            5,
+            FileReason::UnknownTable,
+        ),
+        (
+            "mope 1\nTABLE t (a)\nSESSION\nBEGIN\nREBUILD t (A)\nEND",
+            5,
+            FileReason::UnknownColumn,
+        ),
+        (
+            "mope 1\nTABLE t (a)\nSESSION\nINSERT INTO t VALUES (1, 1)\nEND",
+            4,
+            FileReason::WrongWidth,
+        ),
+        ("mope 1\nSESSION\nBEGIN\nEND", 4, FileReason::Transaction),
+        ("mope 1\n\n\n", 4, FileReason::NoEnd),
+    ] {
+        assert_eq!(rt; refused(rt.alloc(), file), Some((line, reason)));
+    }
+}
+
+// A file that is one byte too long is refused before its lines are looked at.
+#[test]
+fn input_too_long(rt: HostRuntime) -> Result<(), Fail> {
+    let alloc = rt.alloc();
+    let mut file = Vec::new(alloc);
+    let lines = [b'\x01'; 1024];
+    for _ in 0..65_536 {
+        file.extend_from_slice(&lines)?;
+    }
+    assert_eq!(rt; refused_bytes(alloc, &file), Some((1, FileReason::BadByte)));
+    file.push(b'\n')?;
+    assert_eq!(rt;
+        refused_bytes(alloc, &file),
+        Some((0, FileReason::InputTooLong))
+    );
+    Ok(())
 }
 
 /// A file with this line so many times in its middle.

@@ -8,8 +8,8 @@ invariant-lines l = record {
   first_counted : l.first_number + length l.first ≤ 2 ^ 32;
   counted : l.number + length l.second ≤ 2 ^ 32;
   same :
-    (found : Option ℕ) → IsComparison l.first_number (lines_of l.first) l.number (lines_of l.second) found
-    → IsComparison 1 (lines_of l.initial.first) l.initial.number (lines_of l.initial.second) found;
+      (found : Option ℕ) → IsComparison l.first_number (lines_of l.first) l.number (lines_of l.second) found
+      → IsComparison 1 (lines_of l.initial.first) l.initial.number (lines_of l.initial.second) found;
 }
 
 abbrev pub decreases-lines : goal.decreases-lines

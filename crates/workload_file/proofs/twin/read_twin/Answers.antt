@@ -16,7 +16,8 @@ returns-in-None c =
           twins_read c.args.bytes.now (lines_of c.in-Ok.read.1.now) c.in-Ok.read.0 c.in-Ok-read_lines.second c.in-Ok.read.2 c.in_ok-line.field-0 c.if-bytes-gt-BYTES_MOST.false first leads c.in_ok-line.ensures c.in-None.is;
       valid = (
         first_valid c.args.bytes.now (lines_of c.in-Ok.read.1.now) c.in-Ok.read.0 c.in-Ok.read.2 c.if-bytes-gt-BYTES_MOST.false first,
-        second_valid c.args.bytes.now c.in-Ok.read.1.now c.in-Ok.read.2 c.in-Ok-read_lines.second c.if-bytes-gt-BYTES_MOST.false c.in-Ok.ensures.counted leads (omega (arith, number)));
+        second_valid c.args.bytes.now c.in-Ok.read.1.now c.in-Ok.read.2 c.in-Ok-read_lines.second c.if-bytes-gt-BYTES_MOST.false c.in-Ok.ensures.counted leads (omega (arith, number)),
+      );
       fault = tt;
     }
 

@@ -23,3 +23,4 @@ pub mod TwinEnds
 pub mod TwinVerdicts
 pub mod GrammarRead
 pub mod GrammarRun
+pub mod GrammarTaken

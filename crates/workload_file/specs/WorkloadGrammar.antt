@@ -1,5 +1,5 @@
 -- What the lines of a workload's file say, in their order, told by the workload that they spell.
-use Rattle.std.specs.Prelude.{◌≡◌, ◌↔◌, ◌⊎◌, ℕ, Bool, true, false, List, [], ◌∷◌, ◌++◌, map, Ok}
+use Rattle.std.specs.Prelude.{◌≡◌, ◌↔◌, ◌⊎◌, ◌≤◌, ℕ, Bool, true, false, List, [], ◌∷◌, ◌++◌, length, map, Ok}
 use Rattle.workload.specs.Validity.{IsValid}
 use Rattle.sql_text.specs.declared.Name.{Name}
 use Rattle.sql_text.specs.declared.frames.Frame.TheVariants as frame
@@ -93,6 +93,12 @@ pub record IsSpelledBy (lines : List (List ℕ)) (w : Workload) : Type 0 where
   pub says : Say 1 lines all
   pub spelled : SpellWorkload (map (λ (line : SaidLine). line.said) all) w
 
--- a workload that is read is what the lines say
-abbrev pub WorkloadsReadAreSpelled : Type 0
-WorkloadsReadAreSpelled = (bytes : List ℕ) (w : Workload) → IsWorkloadFile bytes w → IsSpelledBy (lines_of bytes) w
+-- the bytes aren't too many, their lines that aren't blank say the workload, and it is valid
+pub record SpellValidWorkload (bytes : List ℕ) (w : Workload) : Type 0 where
+  pub short : length bytes ≤ 67108864
+  pub spelled : IsSpelledBy (lines_of bytes) w
+  pub valid : IsValid w
+
+-- a workload is read exactly where the lines say it and it is valid
+abbrev pub WorkloadsAreReadAsSpelled : Type 0
+WorkloadsAreReadAsSpelled = (bytes : List ℕ) (w : Workload) → IsWorkloadFile bytes w ↔ SpellValidWorkload bytes w

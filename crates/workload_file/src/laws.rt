@@ -1,7 +1,7 @@
 //! Laws of files. Each function is empty: its contract is the law.
 ghost use Rattle.workload_file.specs.GeneratedLaws.{GeneratedIsAWorkload};
 ghost use Rattle.workload_file.specs.Theorems.{FilesGiveOneVerdict, WorkloadsReadAreValid};
-ghost use Rattle.workload_file.specs.WorkloadGrammar.{WorkloadsReadAreSpelled};
+ghost use Rattle.workload_file.specs.WorkloadGrammar.{WorkloadsAreReadAsSpelled};
 
 /// The bytes of a file give one verdict at most: one workload, or one line with one reason.
 pub fn files_give_one_verdict()
@@ -20,8 +20,8 @@ pub fn generated_is_a_workload()
     ensures { GeneratedIsAWorkload }
 {}
 
-/// The lines of a workload that is read, but for blank ones, are the header, a TABLE line for each of its tables, for
-/// each session the line SESSION and the statements of its script, and END.
-pub fn workloads_read_are_spelled()
-    ensures { WorkloadsReadAreSpelled }
+/// A workload is read exactly where it is valid and the lines, but for blank ones, are the header, a TABLE line for
+/// each of its tables, for each session the line SESSION and the statements of its script, and END.
+pub fn workloads_are_read_as_spelled()
+    ensures { WorkloadsAreReadAsSpelled }
 {}

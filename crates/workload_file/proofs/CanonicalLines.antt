@@ -1,15 +1,14 @@
 -- Canonical lines are read as their statements, and no two statements have one.
-use Rattle.std.proofs.Common.{◌≡◌, ℕ, false, true, List, [], ◌∷◌, ◌++◌, map, None, Ok, refl, ap, sym, ◌∙◌, subst, append-nil}
+use Rattle.std.proofs.Common.{◌≡◌, ℕ, false, List, None, Ok, ap, sym, ◌∙◌, subst, append-nil}
 use Rattle.sql_text.proofs.Begun.{spells_once}
-use Rattle.sql_text.specs.Canonical.{canonical, text_after, text_of}
+use Rattle.sql_text.specs.Canonical.{canonical, text_of}
 use Rattle.sql_text.specs.Faults.{Gives, HasTokens}
 use Rattle.sql_text.specs.Grammar.{IsStatement, Spells, end_tokens, ninth, spelling, statement_tokens}
 use Rattle.sql_text.specs.Lexing.{AreTokens, Placed, bare, tokens_of}
-use Rattle.sql_text.specs.declared.Name.{Name}
 use Rattle.sql_text.specs.declared.statements.Stmt.{Stmt}
 use Rattle.sql_text.specs.declared.tokens.Token.{Token}
 use Rattle.workload_file.proofs.AgainBytes.{text_has_no_bad_byte}
-use Rattle.workload_file.proofs.AgainLines.{ReadAs, text_read}
+use Rattle.workload_file.proofs.AgainLines.{text_read}
 
 -- the text of tokens has them
 pub text_tokens : (tokens : List Token) → AreTokens tokens → (placed : List Placed) × HasTokens (text_of tokens) placed × (bare placed ≡ tokens)

@@ -1,15 +1,15 @@
 -- A text whose lines have neither a line feed nor a carriage return is cut into these lines.
-use Rattle.std.proofs.Common.{◌≡◌, ℕ, suc, ◌-◌, Bool, true, false, not, ◌==◌, List, [], ◌∷◌, ◌++◌, length, slice_index, refl, ap, sym, ◌∙◌, subst, arith}
+use Rattle.std.proofs.Common.{◌≡◌, ℕ, suc, ◌-◌, Bool, true, false, ◌==◌, List, [], ◌∷◌, ◌++◌, length, slice_index, refl, ap, sym, ◌∙◌, subst, arith}
 use Rattle.std.proofs.lemmas.Bool.{and_parts}
 use Rattle.std.proofs.lemmas.Bool.Decides.{nat_tests}
 use Rattle.std.specs.List.{list_all}
 use Rattle.mope_base.specs.Lists.{Each}
-use Rattle.sql_text.specs.Canonical.{canonical, text_of}
+use Rattle.sql_text.specs.Canonical.{canonical}
 use Rattle.sql_text.specs.Grammar.{statement_tokens}
 use Rattle.sql_text.specs.Lexing.{AreTokens}
 use Rattle.sql_text.specs.Words.{is_allowed}
 use Rattle.sql_text.specs.declared.statements.Stmt.{Stmt}
-use Rattle.workload_file.specs.FileLines.{cut_if, ends_in_return, is_feed, is_inside, lines_of, with_byte, without_return}
+use Rattle.workload_file.specs.FileLines.{cut_if, ends_in_return, is_feed, lines_of, with_byte, without_return}
 use Rattle.workload_file.specs.GeneratedText.{text_of_lines}
 use Rattle.workload_file.proofs.AgainBytes.{text_allowed}
 

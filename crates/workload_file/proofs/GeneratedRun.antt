@@ -1,31 +1,25 @@
 -- The lines of a generated text lead to a workload.
-use Rattle.std.proofs.Common.{◌≡◌, ℕ, zero, suc, ◌+◌, ◌/◌, ◌^◌, ◌<◌, ◌≤◌, lit<, lit≤, Bool, true, false, nat_eq, nat_lt, nat_le, List, [], ◌∷◌, ◌++◌, length, map, None, Some, Ok, Err, Result, if◌then◌else◌, codes, refl, ap, sym, ◌∙◌, subst, arith, append_assoc, length-append, mod-lt}
+use Rattle.std.proofs.Common.{◌≡◌, ℕ, zero, suc, ◌+◌, ◌/◌, ◌^◌, ◌<◌, ◌≤◌, lit<, lit≤, Bool, true, false, nat_eq, nat_lt, List, [], ◌∷◌, ◌++◌, length, map, None, Some, Ok, if◌then◌else◌, refl, ap, sym, ◌∙◌, subst, arith, append_assoc, length-append, mod-lt}
 use Rattle.std.proofs.lemmas.List.{map-append}
 use Rattle.std.specs.List.{list_all}
 use Rattle.mope_base.specs.Lists.{Each}
-use Rattle.sql_text.specs.Canonical.{canonical, gap, text_after, text_of}
-use Rattle.sql_text.specs.FrameLines.{IsFrameLine, frame_tokens}
-use Rattle.sql_text.specs.Grammar.{joined, joined_after}
-use Rattle.sql_text.specs.Lexing.{blank_or_token, first_token, number_at, symbol_at, token_at, tokens_from, with_first, word_at}
-use Rattle.sql_text.specs.Words.{is_allowed, keyword_of, keywords}
-use Rattle.sql_text.specs.declared.frames.Frame.TheVariants as frame
+use Rattle.sql_text.specs.Canonical.{canonical}
+use Rattle.sql_text.specs.Words.{is_allowed}
 use Rattle.sql_text.specs.declared.statements.Stmt.{Stmt}
 use Rattle.sql_text.specs.declared.statements.Stmt.TheVariants as stmt
 use Rattle.workload.specs.declared.script.Act.{Act}
-use Rattle.workload.specs.declared.script.Decl.{Decl}
 use Rattle.workload.specs.declared.script.Piece.{Piece}
 use Rattle.workload.specs.declared.script.Workload.{Workload}
-use Rattle.workload_file.specs.FileLines.{IsLine, without_return}
+use Rattle.workload_file.specs.FileLines.{IsLine}
 use Rattle.workload_file.specs.GeneratedLaws.{generated_table}
-use Rattle.workload_file.specs.GeneratedText.{behind, by_one, by_two, count_above, count_between, delete_of, drawn, greatest_five, insert_of, least_below, next_state, of_kind, rebuild, transaction, transactions_of}
-use Rattle.workload_file.specs.Resolving.{behind as behind_found, bound, both, columns_in, deleted, deleted_in, each_found, inserted, inserted_if, inserted_in, order_in, rebuild_of, rebuilt, rebuilt_in, rows_in, selected, selected_in, test_in, tests_in, verb_in}
+use Rattle.workload_file.specs.GeneratedText.{behind, count_above, count_between, delete_of, drawn, greatest_five, insert_of, least_below, next_state, of_kind, rebuild, transaction, transactions_of}
+use Rattle.workload_file.specs.Resolving.{bound, both, columns_in, deleted, deleted_in, each_found, inserted, inserted_if, inserted_in, order_in, rebuild_of, rebuilt, rebuilt_in, rows_in, selected, selected_in, test_in, tests_in, verb_in}
 use Rattle.workload_file.specs.Steps.{at, begun, closed, in_session, stated, take, take_at, with_act, with_rebuild, with_stage}
 use Rattle.workload_file.specs.WorkloadFile.{Goes, Leads}
 use Rattle.workload_file.specs.declared.draws.Draft.{Draft}
 use Rattle.workload_file.specs.declared.lines.Line.{Line}
-use Rattle.workload_file.specs.declared.lines.Line.TheVariants.{Framed, Stated}
+use Rattle.workload_file.specs.declared.lines.Line.TheVariants.{Stated}
 use Rattle.workload_file.specs.declared.reader.Reader.{Reader}
-use Rattle.workload_file.specs.declared.reader.Stage.{Stage}
 use Rattle.workload_file.specs.declared.reader.Stage.TheVariants.{Session}
 use Rattle.workload_file.proofs.CanonicalLines.{canonical_gives}
 use Rattle.workload_file.proofs.CleanLines.{canonical_clean, return_kept}

@@ -1,9 +1,9 @@
 -- The statements of generated workloads: their canonical lines give them, and aren't long.
-use Rattle.std.proofs.Common.{◌≡◌, ℕ, Bool, false, ◌+◌, ◌^◌, ◌<◌, ◌≤◌, lit≤, lit<, List, [], ◌∷◌, ◌++◌, length, None, codes, refl, sym, ◌∙◌, ap, subst, arith, length-append}
+use Rattle.std.proofs.Common.{◌≡◌, ℕ, false, ◌+◌, ◌^◌, ◌<◌, ◌≤◌, lit≤, lit<, List, [], ◌++◌, length, None, codes, refl, ◌∙◌, ap, arith, length-append}
 use Rattle.std.proofs.lemmas.Fmt.{length-decimal-le}
 use Rattle.std.specs.Fmt.{decimal}
 use Rattle.sql_text.specs.Canonical.{canonical, gap, text_after, text_of}
-use Rattle.sql_text.specs.Grammar.{IsStatement, cond_tokens, direction_tokens, end_tokens, joined, joined_after, limit_tokens, ninth, ninth_column, ninth_in, first_of, order_tokens, statement_tokens, test_tokens, what_tokens, where_tokens}
+use Rattle.sql_text.specs.Grammar.{IsStatement, cond_tokens, direction_tokens, joined, joined_after, limit_tokens, ninth, ninth_column, ninth_in, first_of, order_tokens, statement_tokens, test_tokens, what_tokens, where_tokens}
 use Rattle.sql_text.specs.Lexing.{AreTokens}
 use Rattle.sql_text.specs.Words.{IsName, keyword_of, keywords}
 use Rattle.sql_text.specs.declared.statements.Stmt.{Stmt}

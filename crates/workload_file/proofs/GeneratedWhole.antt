@@ -1,5 +1,5 @@
 -- A generated text, as a whole: it is cut into its lines, isn't too long, and leads to a workload.
-use Rattle.std.proofs.Common.{◌≡◌, ℕ, zero, suc, ◌+◌, ◌*◌, ◌<◌, ◌≤◌, lit<, lit≤, Bool, true, false, List, [], ◌∷◌, ◌++◌, length, map, None, Some, Ok, Err, Result, if◌then◌else◌, codes, refl, ap, sym, ◌∙◌, subst, arith, append_assoc, length-append}
+use Rattle.std.proofs.Common.{◌≡◌, ℕ, zero, suc, ◌+◌, ◌*◌, ◌<◌, ◌≤◌, Bool, true, false, List, [], ◌∷◌, ◌++◌, length, map, Ok, Err, Result, if◌then◌else◌, codes, refl, ap, sym, ◌∙◌, subst, arith, append_assoc, length-append}
 use Rattle.std.proofs.lemmas.Bool.{lt-leb}
 use Rattle.std.specs.List.{list_all}
 use Rattle.mope_base.specs.Lists.{Each}
@@ -19,7 +19,7 @@ use Rattle.workload_file.specs.GeneratedLaws.{SpellsSessions, generated_table}
 use Rattle.workload_file.specs.GeneratedText.{a, b, behind, g, generated, generated_lines, session_lines, sessions_lines, text_of_lines, transaction, transactions_of}
 use Rattle.workload_file.specs.Naming.{declared, declared_as, declared_unless, has_too_many, then_told, told_after, told_apart, with_table}
 use Rattle.workload_file.specs.Steps.{at, at_stage, declaring, framed_in_session, in_session, is_last_session, next_session, opened, session_ended, start, take, take_at, with_tables}
-use Rattle.workload_file.specs.WorkloadFile.{Goes, Leads, ended_at, lines_of}
+use Rattle.workload_file.specs.WorkloadFile.{Leads, ended_at, lines_of}
 use Rattle.workload_file.specs.declared.draws.Draft.{Draft}
 use Rattle.workload_file.specs.declared.lines.Line.TheVariants.{Framed}
 use Rattle.workload_file.specs.declared.reader.Reader.{Reader}

@@ -1,8 +1,7 @@
 -- The lines of a workload that is read say the header, its tables, its sessions and END.
-use Rattle.std.proofs.Common.{◌≡◌, ℕ, suc, Bool, true, false, List, [], ◌∷◌, ◌++◌, length, map, Option, Some, None, Result, Ok, Err, if◌then◌else◌, refl, ap, sym, ◌∙◌, subst, append_assoc, append-nil, inl, inr}
+use Rattle.std.proofs.Common.{◌≡◌, Bool, true, false, List, [], ◌∷◌, ◌++◌, length, map, Option, Some, None, Ok, refl, ap, sym, ◌∙◌, subst, append_assoc, append-nil, inl, inr}
 use Rattle.std.proofs.lemmas.List.{map-append}
 use Rattle.sql_text.specs.declared.Name.{Name}
-use Rattle.sql_text.specs.declared.frames.Frame.{Frame}
 use Rattle.sql_text.specs.declared.frames.Frame.TheVariants as frame
 use Rattle.sql_text.specs.declared.statements.Stmt.{Stmt}
 use Rattle.sql_text.specs.declared.statements.Stmt.TheVariants as stmt
@@ -12,12 +11,10 @@ use Rattle.workload.specs.declared.script.Piece.{Piece}
 use Rattle.workload.specs.declared.script.Piece.TheVariants as piece
 use Rattle.workload.specs.declared.script.Workload.{Workload}
 use Rattle.workload_file.specs.Naming.{declared, declared_as, declared_unless, has_too_many, names_of, stands_in, told_apart, with_table}
-use Rattle.workload_file.specs.Resolving.{deleted, inserted, rebuild_of, rebuilt, rebuilt_in, selected}
+use Rattle.workload_file.specs.Resolving.{rebuilt}
 use Rattle.workload_file.specs.WorkloadGrammar.{SaySessions, SayActs, SaysAct, SaysPiece, SaysScript, SpellWorkload, end_of, table_lines}
 use Rattle.workload_file.specs.declared.lines.Line.{Line}
-use Rattle.workload_file.specs.declared.lines.Line.TheVariants.{Blank, Framed, Stated, Faulty}
-use Rattle.workload_file.specs.declared.stops.FileReason.{FileReason}
-use Rattle.workload_file.specs.declared.stops.FileReason.TheVariants as reason
+use Rattle.workload_file.specs.declared.lines.Line.TheVariants.{Framed, Stated}
 
 abbrev pub end_line : List Line
 end_line = Framed frame.End ∷ []

@@ -17,7 +17,7 @@ use Rattle.workload_file.specs.Naming.{column_of, columns_of, declared, table_of
 use Rattle.workload_file.specs.Resolving.{deleted, inserted, rebuild_of, rebuilt, rebuilt_in, selected}
 use Rattle.workload_file.specs.Steps.{after_end, at, at_stage, begun, closed, declaring, framed_in_session, in_session, is_last_session, next_session, opened, session_ended, start, stated, take, take_at, with_act, with_rebuild, with_stage, with_tables}
 use Rattle.workload_file.specs.TwinFile.{Follows, SaidLine, Say}
-use Rattle.workload_file.specs.WorkloadFile.{Goes, GivesUnless, IsWorkloadFile, Leads, ended_at, is_too_long}
+use Rattle.workload_file.specs.WorkloadFile.{GivesUnless, IsWorkloadFile, Leads, ended_at, is_too_long}
 use Rattle.workload_file.specs.WorkloadGrammar.{IsSpelledBy, SaysAct, SaysPiece, SpellWorkload, end_of}
 use Rattle.workload_file.specs.declared.lines.Line.{Line}
 use Rattle.workload_file.specs.declared.lines.Line.TheVariants.{Blank, Framed, Stated, Faulty}

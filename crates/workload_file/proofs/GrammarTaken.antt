@@ -1,9 +1,8 @@
 -- Lines that say a valid workload lead to it.
-use Rattle.std.proofs.Common.{◌≡◌, ℕ, suc, ◌+◌, ◌<◌, ◌≤◌, Bool, true, false, ◌||◌, nat_eq, nat_le, nat_lt, List, [], ◌∷◌, ◌++◌, length, map, Option, Some, None, Result, Ok, Err, if◌then◌else◌, refl, ap, sym, ◌∙◌, subst, arith, append_assoc, append-nil, length-append, inl, inr}
+use Rattle.std.proofs.Common.{◌≡◌, ℕ, suc, ◌+◌, ◌<◌, ◌≤◌, Bool, true, false, ◌||◌, nat_le, nat_lt, List, [], ◌∷◌, ◌++◌, length, map, Option, Some, None, Result, Ok, Err, if◌then◌else◌, refl, ap, sym, ◌∙◌, subst, arith, append_assoc, append-nil, length-append, inl, inr}
 use Rattle.std.proofs.lemmas.Bool.{lt-leb, le-ltb, ltb-false}
 use Rattle.std.proofs.lemmas.List.{map-append}
-use Rattle.std.specs.List.{list_any}
-use Rattle.std.specs.Cmp.Lexicographic.{pointwise, same_text}
+use Rattle.std.specs.Cmp.Lexicographic.{same_text}
 use Rattle.mope_base.specs.Lists.{Each}
 use Rattle.sql_text.specs.declared.Name.{Name}
 use Rattle.sql_text.specs.declared.frames.Frame.TheVariants as frame
@@ -17,7 +16,6 @@ use Rattle.workload.specs.declared.script.Piece.TheVariants as piece
 use Rattle.workload.specs.declared.script.Workload.{Workload}
 use Rattle.workload_file.specs.FileLines.{IsLine, lines_of, without_return}
 use Rattle.workload_file.specs.Naming.{declared, declared_as, declared_unless, has_too_many, is_same, names_of, stands_in, then_told, told_after, told_apart, with_table}
-use Rattle.workload_file.specs.Resolving.{deleted, inserted, rebuilt, selected}
 use Rattle.workload_file.specs.Steps.{after_end, at, at_stage, begun, closed, declaring, framed_in_session, in_session, is_last_session, next_session, opened, session_ended, start, stated, take, take_at, with_act, with_rebuild, with_stage, with_tables}
 use Rattle.workload_file.specs.TwinFile.{Follows, SaidLine, Say}
 use Rattle.workload_file.specs.WorkloadFile.{Goes, GivesUnless, IsWorkloadFile, Leads, ended_at, is_too_long}

@@ -1,13 +1,11 @@
 -- Lines that are read have one text of their shapes exactly where they have one shape.
-use Rattle.std.proofs.Common.{◌≡◌, ℕ, ◌^◌, ◌<◌, lit<, arith, Bool, true, false, List, [], ◌∷◌, ◌++◌, map, Option, None, codes, refl, ap, sym, ◌∙◌, subst}
+use Rattle.std.proofs.Common.{◌≡◌, ℕ, lit<, arith, false, List, [], ◌∷◌, ◌++◌, map, codes, refl, ap, sym, ◌∙◌, subst}
 use Rattle.mope_base.specs.Lists.{Each}
 use Rattle.sql_text.proofs.PrintedLexed.{lexed_are_tokens}
 use Rattle.sql_text.specs.Canonical.{canonical, gap, text_after, text_of}
 use Rattle.sql_text.specs.Faults.{Gives}
-use Rattle.sql_text.specs.FrameLines.{IsFrameLine}
 use Rattle.sql_text.specs.Grammar.{IsStatement, HasSome, cond_tokens, joined, joined_after, limit_tokens, number_tokens, order_tokens, statement_tokens, test_tokens, what_tokens, where_tokens}
 use Rattle.sql_text.specs.Lexing.{AreTokens}
-use Rattle.sql_text.specs.Words.{IsName}
 use Rattle.sql_text.specs.declared.Name.{Name}
 use Rattle.sql_text.specs.declared.Test.{Test}
 use Rattle.sql_text.specs.declared.Test.TheVariants as test

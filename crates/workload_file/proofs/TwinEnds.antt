@@ -1,26 +1,23 @@
 -- The lines of a workload are read and end at its END, so that two workloads are compared as far as both go.
-use Rattle.std.proofs.Common.{◌≡◌, ℕ, suc, ◌+◌, Bool, true, false, List, [], ◌∷◌, ◌++◌, length, map, Option, Some, None, Result, Ok, Err, if◌then◌else◌, refl, ap, sym, ◌∙◌, subst, arith, inl, inr}
+use Rattle.std.proofs.Common.{◌≡◌, ℕ, suc, Bool, true, false, List, [], ◌∷◌, Result, Ok, Err, refl, ap, sym, ◌∙◌, subst}
 use Rattle.sql_text.specs.declared.frames.Frame.{Frame}
 use Rattle.sql_text.specs.declared.frames.Frame.TheVariants as frame
 use Rattle.sql_text.specs.declared.parsing.Reason.{Reason}
 use Rattle.sql_text.specs.declared.statements.Stmt.{Stmt}
-use Rattle.workload.specs.declared.script.Act.{Act}
 use Rattle.workload.specs.declared.script.Decl.{Decl}
 use Rattle.workload.specs.declared.script.Piece.{Piece}
 use Rattle.workload.specs.declared.script.Workload.{Workload}
 use Rattle.workload_file.specs.FileLines.{IsLine, without_return}
-use Rattle.workload_file.specs.LineTexts.{Agree, Part, shape_text}
-use Rattle.workload_file.specs.Shapes.{line_shape}
 use Rattle.workload_file.specs.Steps.{after_end, at, at_stage, declaring, framed_in_session, in_session, opened, session_ended, stage_ended, take, take_at}
-use Rattle.workload_file.specs.TwinFile.{DifferAt, Follows, SaidLine, Say, shape_of}
-use Rattle.workload_file.specs.WorkloadFile.{Goes, Leads, NextLine, Verdict, ended_at}
+use Rattle.workload_file.specs.TwinFile.{Follows, SaidLine, Say}
+use Rattle.workload_file.specs.WorkloadFile.{Goes, Leads, ended_at}
 use Rattle.workload_file.specs.declared.lines.Line.{Line}
 use Rattle.workload_file.specs.declared.lines.Line.TheVariants.{Blank, Framed, Stated, Faulty}
 use Rattle.workload_file.specs.declared.reader.Reader.{Reader}
 use Rattle.workload_file.specs.declared.reader.Stage.{Stage}
 use Rattle.workload_file.specs.declared.reader.Stage.TheVariants.{Opening, Declaring, Session, Ended}
 use Rattle.workload_file.specs.declared.stops.FileReason.{FileReason}
-use Rattle.workload_file.proofs.ShapeTexts.{IsPlain, IsRead, same_shape, same_text}
+use Rattle.workload_file.proofs.ShapeTexts.{IsPlain, IsRead}
 use Rattle.workload_file.proofs.TwinReading.{ends_by_end, open_end}
 
 unfoldable pub is_end : Line → Bool

@@ -1,6 +1,5 @@
 -- The lines of a first workload, up to its END.
 use Rattle.std.proofs.Common.{◌≡◌, ℕ, suc, ◌+◌, Bool, true, false, List, [], ◌∷◌, ◌++◌, length, Option, Some, None, Result, Ok, Err, if◌then◌else◌, refl, ap, sym, ◌∙◌, subst, arith, append_assoc, append-nil, length-append, add-one}
-use Rattle.sql_text.specs.declared.frames.Frame.{Frame}
 use Rattle.sql_text.specs.declared.frames.Frame.TheVariants as frame
 use Rattle.sql_text.specs.declared.statements.Stmt.{Stmt}
 use Rattle.sql_text.specs.declared.statements.Stmt.TheVariants as stmt
@@ -11,8 +10,8 @@ use Rattle.workload.specs.declared.script.Workload.{Workload}
 use Rattle.workload_file.specs.FileLines.{IsLine, lines_of, without_return}
 use Rattle.workload_file.specs.Naming.{declared}
 use Rattle.workload_file.specs.Resolving.{deleted, inserted, rebuilt, selected}
-use Rattle.workload_file.specs.Steps.{after_end, at, at_stage, begun, closed, declaring, framed_in_session, in_session, inside, is_last_session, next_session, opened, outside, session_ended, stage_ended, start, stated, take, take_at, with_act, with_rebuild, with_stage, with_tables}
-use Rattle.workload_file.specs.TwinFile.{IsCut, IsFirst, IsFirstFault}
+use Rattle.workload_file.specs.Steps.{at, at_stage, begun, closed, declaring, framed_in_session, in_session, inside, is_last_session, next_session, opened, outside, session_ended, stage_ended, start, stated, take, take_at, with_act, with_rebuild, with_stage, with_tables}
+use Rattle.workload_file.specs.TwinFile.{IsFirst, IsFirstFault}
 use Rattle.workload_file.specs.WorkloadFile.{Goes, Leads, NextLine, Verdict, ended_at}
 use Rattle.workload_file.specs.declared.lines.Line.{Line}
 use Rattle.workload_file.specs.declared.lines.Line.TheVariants.{Blank, Framed, Stated, Faulty}

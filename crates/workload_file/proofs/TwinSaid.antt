@@ -1,15 +1,11 @@
 -- What the lines of two workloads say.
-use Rattle.std.proofs.Common.{◌≡◌, ℕ, suc, ◌+◌, Bool, true, false, List, [], ◌∷◌, ◌++◌, length, map, Option, Some, None, Result, Ok, Err, refl, ap, sym, ◌∙◌, subst, arith, add-one, inl, inr}
-use Rattle.sql_text.specs.declared.frames.Frame.TheVariants as frame
-use Rattle.workload.specs.declared.script.Workload.{Workload}
-use Rattle.workload_file.specs.FileLines.{IsLine, lines_of, without_return}
+use Rattle.std.proofs.Common.{◌≡◌, ℕ, suc, ◌+◌, true, false, List, [], ◌∷◌, Option, Some, None, refl, sym, subst, add-one, inl, inr}
+use Rattle.workload_file.specs.FileLines.{IsLine, without_return}
 use Rattle.workload_file.specs.LineTexts.{Agree, AreCompared, IsAllSaid, IsComparison, IsNextSaid, Part, says_nothing, shape_text}
-use Rattle.workload_file.specs.Shapes.{line_shape}
-use Rattle.workload_file.specs.TwinFile.{DifferAt, Follows, SaidLine, Say, shape_of}
+use Rattle.workload_file.specs.TwinFile.{Follows, SaidLine, Say}
 use Rattle.workload_file.specs.declared.lines.Line.{Line}
 use Rattle.workload_file.specs.declared.lines.Line.TheVariants.{Blank, Framed, Stated, Faulty}
 use Rattle.workload_file.proofs.OneVerdict.{one_line}
-use Rattle.workload_file.proofs.TwinReading.{no_lines}
 
 -- what lines say goes on behind a line
 record Split (n : ℕ) (said : Line) (rest : List (List ℕ)) (all : List SaidLine) : Type 0 where

@@ -1,23 +1,21 @@
 -- What a file of two workloads gives, from what was found in it.
-use Rattle.std.proofs.Common.{◌≡◌, ℕ, suc, ◌+◌, ◌<◌, ◌≤◌, ◌^◌, Bool, true, false, nat_lt, List, [], ◌∷◌, ◌++◌, length, map, Option, Some, None, Result, Ok, Err, refl, ap, sym, ◌∙◌, subst, arith, inl, inr, add-one, length-append}
+use Rattle.std.proofs.Common.{◌≡◌, ℕ, suc, ◌+◌, ◌<◌, ◌≤◌, Bool, true, false, nat_lt, List, [], ◌∷◌, ◌++◌, length, map, Option, Some, None, Ok, Err, refl, ap, sym, ◌∙◌, subst, arith, inl, inr, length-append}
 use Rattle.std.proofs.lemmas.Bool.{lt-ltb, le-ltb}
-use Rattle.sql_text.specs.declared.frames.Frame.TheVariants as frame
 use Rattle.workload.specs.Validity.{IsValid}
 use Rattle.workload.specs.declared.script.Workload.{Workload}
 use Rattle.workload_file.specs.FileLines.{lines_of}
 use Rattle.workload_file.specs.LineTexts.{Agree, AreCompared, IsComparison, Part, shape_text}
 use Rattle.workload_file.specs.Shapes.{line_shape}
 use Rattle.workload_file.specs.Steps.{start}
-use Rattle.workload_file.specs.TwinFile.{AreTwins, AreTwo, DifferAt, Follows, GivesTwinVerdict, GivesTwo, GivesTwoUnless, HaveTwoShapes, IsCut, IsFirst, IsFirstStop, IsTwinFile, IsTwinRefusal, SaidLine, Say, TwinVerdict, shape_of}
+use Rattle.workload_file.specs.TwinFile.{AreTwins, AreTwo, DifferAt, Follows, GivesTwinVerdict, GivesTwo, GivesTwoUnless, HaveTwoShapes, IsFirst, IsFirstStop, IsTwinFile, IsTwinRefusal, SaidLine, Say, TwinVerdict, shape_of}
 use Rattle.workload_file.specs.WorkloadFile.{IsToldBy, Leads, Verdict, is_too_long}
 use Rattle.workload_file.specs.declared.lines.Line.{Line}
 use Rattle.workload_file.specs.declared.lines.Line.TheVariants.{Blank, Framed, Stated, Faulty}
-use Rattle.workload_file.specs.declared.stops.FileReason.{FileReason}
 use Rattle.workload_file.specs.declared.stops.FileReason.TheVariants as reason
 use Rattle.workload_file.specs.declared.stops.FileStop.{FileStop}
 use Rattle.workload_file.specs.declared.stops.FileStop.TheVariants.{Bad, OutOfMemory}
 use Rattle.workload_file.proofs.ShapeTexts.{same_shape, same_text}
-use Rattle.workload_file.proofs.TwinEnds.{Ending, EndsOnce, SaysAll, is_end, says_all}
+use Rattle.workload_file.proofs.TwinEnds.{Ending, EndsOnce, is_end, says_all}
 use Rattle.workload_file.proofs.TwinReading.{not_yet}
 use Rattle.workload_file.proofs.ValidSteps.{leads_valid, lines_few, start_holds}
 

@@ -4,7 +4,7 @@ use Rattle.sql_text.specs.Canonical.{canonical}
 use Rattle.sql_text.specs.declared.Name.{Name}
 use Rattle.sql_text.specs.declared.frames.Frame.TheVariants as frame
 use Rattle.workload_file.specs.Shapes.{statement_shape}
-use Rattle.workload_file.specs.TwinFile.{SaidLine, Say, shape_of}
+use Rattle.workload_file.specs.TwinFile.{SaidLine, Say}
 use Rattle.workload_file.specs.declared.lines.Line.{Line}
 use Rattle.workload_file.specs.declared.lines.Line.TheVariants.{Blank, Framed, Stated, Faulty}
 

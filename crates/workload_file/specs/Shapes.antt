@@ -1,5 +1,5 @@
 -- The shape of a line, of a statement, and of a workload: what is left with 0 in place of each constant. A LIMIT's number is none.
-use Rattle.std.specs.Prelude.{◌≡◌, ℕ, List, map}
+use Rattle.std.specs.Prelude.{◌≡◌, ℕ, map}
 use Rattle.mope_base.specs.declared.numbers.ColNo.{ColNo}
 use Rattle.sql_text.specs.declared.Test.{Test}
 use Rattle.sql_text.specs.declared.Test.TheVariants as test

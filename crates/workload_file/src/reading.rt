@@ -1,8 +1,9 @@
 //! The reader of a workload's file.
 ghost use Rattle.std.specs.Prelude.{◌≡◌, ◌+◌, ◌≤◌, ◌^◌, length, IfOk, IfErr};
 ghost use Rattle.workload.specs.Validity.{IsValid};
+ghost use Rattle.workload.specs.declared.script.Workload.{Workload as WorkloadValue};
 ghost use Rattle.workload_file.specs.Steps.{start};
-ghost use Rattle.workload_file.specs.WorkloadFile.{IsWorkloadFile, IsRefusal, IsToldBy, Leads, ended_at, NextLine, lines_of};
+ghost use Rattle.workload_file.specs.WorkloadFile.{IsWorkloadFile, IsReadAs, IsRefusal, IsToldBy, Leads, ended_at, NextLine, lines_of};
 
 use crate::lines::{first_line, read_line, without_return};
 use crate::reader::{Reader, Stage, start, take};
@@ -22,6 +23,7 @@ pub fn read_workload(alloc: Global, bytes: &[u8]) -> Result<Workload, FileStop>
     ensures read { IfOk result (λ w. IsWorkloadFile bytes.now w) }
     ensures valid { IfOk result (λ w. IsValid w) }
     ensures fault { IfErr result (λ stop. IsRefusal bytes.now stop) }
+    ensures complete { (w : WorkloadValue) → IsWorkloadFile bytes.now w → IsReadAs w result }
 {
     if bytes.len() > BYTES_MOST {
         let reason = FileReason::InputTooLong;

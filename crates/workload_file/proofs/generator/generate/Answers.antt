@@ -1,5 +1,4 @@
-use Rattle.std.proofs.Common.{sym, ◌∙◌, ap, ◌++◌, ◌∷◌, [], List, ℕ}
-use Rattle.workload_file.specs.GeneratedText.{sessions_lines, text_of_lines}
+use Rattle.std.proofs.Common.{◌∙◌, ap, ◌++◌, ◌∷◌, [], List, ℕ}
 use Rattle.workload_file.proofs.TextLemmas.{session_more, sessions_end, whole_text}
 use Rattle.workload_file.proofs.generator.generate.Goals as goal
 

@@ -1,4 +1,4 @@
-use Rattle.std.proofs.Common.{sym, ◌∙◌, ap, ◌∷◌, ◌++◌, [], List, ℕ}
+use Rattle.std.proofs.Common.{◌∙◌}
 use Rattle.workload_file.proofs.TextLemmas.{statement_more, statements_end}
 use Rattle.workload_file.proofs.generator.put_statements.Goals as goal
 

@@ -1,4 +1,4 @@
-use Rattle.std.proofs.Common.{sym, ◌∙◌, ap, ◌++◌, List, map}
+use Rattle.std.proofs.Common.{◌∙◌, ap, ◌++◌, List, map}
 use Rattle.sql_text.specs.Canonical.{canonical}
 use Rattle.sql_text.specs.declared.statements.Stmt.{Stmt}
 use Rattle.workload_file.specs.GeneratedText.{text_of_lines}

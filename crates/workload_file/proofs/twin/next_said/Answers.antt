@@ -1,6 +1,5 @@
-use Rattle.std.proofs.Common.{◌≡◌, ◌+◌, List, length, subst, sym, ◌∙◌, rules, arith, false, true}
+use Rattle.std.proofs.Common.{◌≡◌, List, length, subst, sym, ◌∙◌, rules, arith}
 use Rattle.workload_file.specs.FileLines.{IsLine, lines_of}
-use Rattle.workload_file.specs.TwinFile.{SaidLine, Say}
 use Rattle.workload_file.proofs.TwinReading.{no_lines}
 use Rattle.workload_file.proofs.TwinSaid.{blank_passed, next_found, none_found}
 use Rattle.workload_file.proofs.twin.next_said.Goals as goal

@@ -1,4 +1,4 @@
-use Rattle.std.proofs.Common.{◌≡◌, ◌+◌, Ok, Err, sym, ◌∙◌, subst, length, false, rules, arith}
+use Rattle.std.proofs.Common.{◌≡◌, sym, ◌∙◌, subst, length, false, rules, arith}
 use Rattle.workload_file.specs.FileLines.{lines_of}
 use Rattle.workload_file.specs.Steps.{stage_ended}
 use Rattle.workload_file.specs.WorkloadFile.{NextLine}

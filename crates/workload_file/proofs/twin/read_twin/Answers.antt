@@ -1,4 +1,4 @@
-use Rattle.std.proofs.Common.{ℕ, suc, length, ◌≡◌, ◌<◌, arith}
+use Rattle.std.proofs.Common.{arith}
 use Rattle.workload_file.specs.FileLines.{lines_of}
 use Rattle.workload_file.proofs.TwinVerdicts.{first_stops, first_valid, second_stops, second_valid, shapes_apart, too_long, twins_read}
 use Rattle.workload_file.proofs.twin.read_twin.Goals as goal

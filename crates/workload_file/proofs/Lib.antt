@@ -24,3 +24,4 @@ pub mod TwinVerdicts
 pub mod GrammarRead
 pub mod GrammarRun
 pub mod GrammarTaken
+pub mod TwinOnce

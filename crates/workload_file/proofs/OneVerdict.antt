@@ -47,7 +47,7 @@ one_line line (Faulty r) (Framed f) is other = absurd (is.no_frame f other)
 one_line line (Faulty r) (Stated s) is other = absurd (fault_gives_none line is.at r s is.fault other)
 one_line line (Faulty r) (Faulty q) is other = ap Faulty ((one_fault line is.at other.at r q is.fault other.fault).1)
 
-one_next : (reader : Reader) (line : List ℕ) (a b : Result Reader FileReason) → NextLine reader line a → NextLine reader line b → a ≡ b
+pub one_next : (reader : Reader) (line : List ℕ) (a b : Result Reader FileReason) → NextLine reader line a → NextLine reader line b → a ≡ b
 one_next reader line a b x y =
     x.taken ∙ ap (λ said. take reader said) (one_line (without_return line) x.said y.said x.is_line y.is_line) ∙ sym y.taken
 
@@ -58,7 +58,7 @@ unfolding Goes
 one_goes n (Ok next) P Q a b rest p q = rest next p q
 one_goes n (Err why) P Q a b rest p q = p ∙ sym q
 
-one_leads : (n : ℕ) (reader : Reader) (lines : List (List ℕ)) (a b : Verdict) → Leads n reader lines a → Leads n reader lines b → a ≡ b
+pub one_leads : (n : ℕ) (reader : Reader) (lines : List (List ℕ)) (a b : Verdict) → Leads n reader lines a → Leads n reader lines b → a ≡ b
 unfolding Leads
 one_leads n reader [] a b x y = x ∙ sym y
 one_leads n reader (line ∷ lines) a b x y =

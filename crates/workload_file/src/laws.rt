@@ -1,6 +1,6 @@
 //! Laws of files. Each function is empty: its contract is the law.
 ghost use Rattle.workload_file.specs.GeneratedLaws.{GeneratedIsAWorkload};
-ghost use Rattle.workload_file.specs.Theorems.{FilesGiveOneVerdict, WorkloadsReadAreValid};
+ghost use Rattle.workload_file.specs.Theorems.{FilesGiveOneVerdict, TwinFilesGiveOneVerdict, WorkloadsReadAreValid};
 ghost use Rattle.workload_file.specs.WorkloadGrammar.{WorkloadsAreReadAsSpelled};
 
 /// The bytes of a file give one verdict at most: one workload, or one line with one reason.
@@ -24,4 +24,9 @@ pub fn generated_is_a_workload()
 /// each of its tables, for each session the line SESSION and the statements of its script, and END.
 pub fn workloads_are_read_as_spelled()
     ensures { WorkloadsAreReadAsSpelled }
+{}
+
+/// The bytes of a file of two workloads give one verdict at most: the two, or one line with one reason.
+pub fn twin_files_give_one_verdict()
+    ensures { TwinFilesGiveOneVerdict }
 {}

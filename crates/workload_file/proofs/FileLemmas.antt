@@ -79,7 +79,7 @@ unfolding GivesUnless
 short_by true bytes verdict e leads = absurd (let no : ⊥ = cc in no)
 short_by false bytes verdict e leads = leads
 
-not_long : (bytes : List ℕ) (verdict : Verdict) → length bytes ≤ 67108864 → Leads 1 start (lines_of bytes) verdict → GivesVerdict bytes verdict
+pub not_long : (bytes : List ℕ) (verdict : Verdict) → length bytes ≤ 67108864 → Leads 1 start (lines_of bytes) verdict → GivesVerdict bytes verdict
 unfolding is_too_long
 not_long bytes verdict short leads = short_by (nat_lt 67108864 (length bytes)) bytes verdict (le-ltb 67108864 (length bytes) short) leads
 

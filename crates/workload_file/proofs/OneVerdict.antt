@@ -1,5 +1,7 @@
 -- A line says one thing, and so the bytes of a file give one verdict.
 use Rattle.std.proofs.Common.{◌≡◌, ℕ, suc, Bool, true, false, List, [], ◌∷◌, length, Result, Ok, Err, refl, ap, sym, ◌∙◌, subst}
+use Rattle.std.specs.Result.{IfOk, IfErr}
+use Rattle.workload.specs.declared.script.Workload.{Workload}
 use Rattle.sql_text.proofs.BlankLines.{blank_no_frame, blank_no_statement}
 use Rattle.sql_text.proofs.Begun.{spells_once}
 use Rattle.sql_text.proofs.FaultsOnce.{one_fault, fault_gives_none}
@@ -12,11 +14,13 @@ use Rattle.sql_text.specs.declared.parsing.Reason.TheVariants.{Syntax}
 use Rattle.sql_text.specs.declared.statements.Stmt.{Stmt}
 use Rattle.workload_file.specs.FileLines.{IsLine, lines_of, without_return}
 use Rattle.workload_file.specs.Steps.{start, take}
-use Rattle.workload_file.specs.WorkloadFile.{Verdict, NextLine, Goes, Leads, GivesUnless, GivesVerdict, is_too_long}
+use Rattle.workload_file.specs.WorkloadFile.{Verdict, NextLine, Goes, Leads, GivesUnless, GivesVerdict, IsReadAs, IsRefusal, IsWorkloadFile, is_too_long}
 use Rattle.workload_file.specs.declared.lines.Line.{Line}
 use Rattle.workload_file.specs.declared.lines.Line.TheVariants.{Blank, Framed, Stated, Faulty}
 use Rattle.workload_file.specs.declared.reader.Reader.{Reader}
 use Rattle.workload_file.specs.declared.stops.FileReason.{FileReason}
+use Rattle.workload_file.specs.declared.stops.FileStop.{FileStop}
+use Rattle.workload_file.specs.declared.stops.FileStop.TheVariants.{Bad, OutOfMemory}
 
 one_statement : (line : List ℕ) (s t : Stmt) → Gives line s → Gives line t → s ≡ t
 one_statement line s t gs gt =
@@ -43,7 +47,7 @@ one_line line (Faulty r) (Framed f) is other = absurd (is.no_frame f other)
 one_line line (Faulty r) (Stated s) is other = absurd (fault_gives_none line is.at r s is.fault other)
 one_line line (Faulty r) (Faulty q) is other = ap Faulty ((one_fault line is.at other.at r q is.fault other.fault).1)
 
-one_next : (reader : Reader) (line : List ℕ) (a b : Result Reader FileReason) → NextLine reader line a → NextLine reader line b → a ≡ b
+pub one_next : (reader : Reader) (line : List ℕ) (a b : Result Reader FileReason) → NextLine reader line a → NextLine reader line b → a ≡ b
 one_next reader line a b x y =
     x.taken ∙ ap (λ said. take reader said) (one_line (without_return line) x.said y.said x.is_line y.is_line) ∙ sym y.taken
 
@@ -54,7 +58,7 @@ unfolding Goes
 one_goes n (Ok next) P Q a b rest p q = rest next p q
 one_goes n (Err why) P Q a b rest p q = p ∙ sym q
 
-one_leads : (n : ℕ) (reader : Reader) (lines : List (List ℕ)) (a b : Verdict) → Leads n reader lines a → Leads n reader lines b → a ≡ b
+pub one_leads : (n : ℕ) (reader : Reader) (lines : List (List ℕ)) (a b : Verdict) → Leads n reader lines a → Leads n reader lines b → a ≡ b
 unfolding Leads
 one_leads n reader [] a b x y = x ∙ sym y
 one_leads n reader (line ∷ lines) a b x y =
@@ -70,3 +74,9 @@ one_unless false bytes a b x y = one_leads 1 start (lines_of bytes) a b x y
 
 pub one_verdict : (bytes : List ℕ) (a b : Verdict) → GivesVerdict bytes a → GivesVerdict bytes b → a ≡ b
 one_verdict bytes a b x y = one_unless (is_too_long bytes) bytes a b x y
+
+-- a workload that the bytes give is what was read
+pub read_complete : (bytes : List ℕ) (verdict : Verdict) → IfOk verdict (λ (w : Workload). IsWorkloadFile bytes w) → IfErr verdict (λ (stop : FileStop). IsRefusal bytes stop) → (w : Workload) → IsWorkloadFile bytes w → IsReadAs w verdict
+read_complete bytes (Ok v) read fault w is = (let same = one_verdict bytes (Ok v) (Ok w) read is in cc)
+read_complete bytes (Err OutOfMemory) read fault w is = refl
+read_complete bytes (Err (Bad line why)) read fault w is = absurd (let same = one_verdict bytes (Err (Bad line why)) (Ok w) fault is in let no : ⊥ = cc in no)

@@ -106,7 +106,7 @@ tests_valid tables t conds tests read e =
     let f = found_each (test_in (columns_of tables t)) (λ (c : Cond). HasNumbers c.test) (IsValidTest tables t) (λ c x has is. test_valid tables t c x has is) conds tests read.0 e in
     (omega (arith, f.1, read.1), f.0)
 
-each_push : {A : Type 0} (P : A → Type 0) (xs : List A) (x : A) → Each P xs → P x → Each P (xs ++ x ∷ [])
+pub each_push : {A : Type 0} (P : A → Type 0) (xs : List A) (x : A) → Each P xs → P x → Each P (xs ++ x ∷ [])
 unfolding Each
 each_push P [] x each is = (is, tt)
 each_push P (y ∷ xs) x each is = (each.0, each_push P xs x each.1 is)

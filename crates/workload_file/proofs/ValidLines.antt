@@ -28,7 +28,7 @@ use Rattle.workload.specs.Validity.{IsNumber, HasNumbers, IsLimit}
 abbrev mark_close : List Token
 mark_close = Fixed mark.Close ∷ []
 
-abbrev NamesHold : List Name → Type 0
+abbrev pub NamesHold : List Name → Type 0
 NamesHold names = Each (λ (name : Name). IsName name.bytes) names
 
 names_after : (names : List Name) (rest : List Token) → AreTokens (joined_after mark.Comma (map name_tokens names) ++ rest) → NamesHold names

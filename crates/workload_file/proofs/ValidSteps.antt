@@ -396,7 +396,7 @@ unfolding Goes
 goes_valid m (Ok after) P w rest goes = rest after refl goes
 goes_valid m (Err why) P w rest goes = absurd (let no : ⊥ = cc in no)
 
-leads_valid : (m n : ℕ) (reader : Reader) (lines : List (List ℕ)) (w : Workload) → n + length lines < 2 ^ 28 → ReaderHolds n reader → Leads m reader lines (Ok w) → IsValid w
+pub leads_valid : (m n : ℕ) (reader : Reader) (lines : List (List ℕ)) (w : Workload) → n + length lines < 2 ^ 28 → ReaderHolds n reader → Leads m reader lines (Ok w) → IsValid w
 unfolding Leads
 leads_valid m n reader [] w bounded h leads = ended_valid m n reader reader.stage w h.tables h.stage leads
 leads_valid m n reader (line ∷ lines) w bounded h leads =
@@ -410,7 +410,7 @@ with_byte_size true b lines = omega arith
 with_byte_size false b [] = omega arith
 with_byte_size false b (line ∷ lines) = omega arith
 
-lines_few : (bytes : List ℕ) → length (lines_of bytes) ≤ length bytes
+pub lines_few : (bytes : List ℕ) → length (lines_of bytes) ≤ length bytes
 unfolding lines_of
 lines_few [] = omega arith
 lines_few (b ∷ bytes) =
@@ -418,7 +418,7 @@ lines_few (b ∷ bytes) =
     let rest = lines_few bytes in
     omega (arith, size, rest)
 
-start_holds : ReaderHolds 0 start
+pub start_holds : ReaderHolds 0 start
 unfolding start Each AreDistinct
 start_holds = record { tables = record { few = omega arith; each = tt; distinct = tt }; stage = refl }
 

@@ -3,4 +3,10 @@ pub mod Resolving
 pub mod FileLines
 pub mod Steps
 pub mod WorkloadFile
+pub mod GeneratedText
+pub mod Shapes
+pub mod TwinFile
+pub mod LineTexts
+pub mod GeneratedLaws
+pub mod WorkloadGrammar
 pub mod Theorems

@@ -152,3 +152,10 @@ take_at Ended tables sessions line = after_end tables sessions line
 -- what the next line makes of what has been read
 unfoldable pub take : Reader → Line → Result Reader FileReason
 take reader line = take_at reader.stage reader.tables reader.sessions line
+
+-- END was read
+unfoldable pub stage_ended : Stage → Bool
+stage_ended Opening = false
+stage_ended Declaring = false
+stage_ended (Session pieces unfinished) = false
+stage_ended Ended = true

@@ -66,3 +66,8 @@ IsToldBy Is (Err OutOfMemory) = Unit {0}
 -- the bytes spell none, and this is the first line that has a fault and its first reason; or memory did not suffice
 abbrev pub IsRefusal : List ℕ → FileStop → Type 0
 IsRefusal bytes stop = IsToldBy (GivesVerdict bytes) (Err stop)
+
+-- the workload was read, unless memory did not suffice
+abbrev pub IsReadAs : Workload → Verdict → Type 0
+IsReadAs w (Ok read) = read ≡ w
+IsReadAs w (Err stop) = stop ≡ OutOfMemory

@@ -1,5 +1,7 @@
 //! Laws of files. Each function is empty: its contract is the law.
-ghost use Rattle.workload_file.specs.Theorems.{FilesGiveOneVerdict, WorkloadsReadAreValid};
+ghost use Rattle.workload_file.specs.GeneratedLaws.{GeneratedIsAWorkload};
+ghost use Rattle.workload_file.specs.Theorems.{FilesGiveOneVerdict, TwinFilesGiveOneVerdict, WorkloadsReadAreValid};
+ghost use Rattle.workload_file.specs.WorkloadGrammar.{WorkloadsAreReadAsSpelled};
 
 /// The bytes of a file give one verdict at most: one workload, or one line with one reason.
 pub fn files_give_one_verdict()
@@ -10,4 +12,21 @@ pub fn files_give_one_verdict()
 /// lists are within their limits, and its statements are about tables and columns that it declares.
 pub fn workloads_read_are_valid()
     ensures { WorkloadsReadAreValid }
+{}
+
+/// The text that is generated from a number spells a valid workload, with as many sessions and transactions as were
+/// asked for.
+pub fn generated_is_a_workload()
+    ensures { GeneratedIsAWorkload }
+{}
+
+/// A workload is read exactly where it is valid and the lines, but for blank ones, are the header, a TABLE line for
+/// each of its tables, for each session the line SESSION and the statements of its script, and END.
+pub fn workloads_are_read_as_spelled()
+    ensures { WorkloadsAreReadAsSpelled }
+{}
+
+/// The bytes of a file of two workloads give one verdict at most: the two, or one line with one reason.
+pub fn twin_files_give_one_verdict()
+    ensures { TwinFilesGiveOneVerdict }
 {}

@@ -1,11 +1,15 @@
 //! Files that are read, and every reason why one isn't.
-use crate::{FileReason, FileStop, read_workload};
+use crate::{FileReason, FileStop, generate, read_workload};
 use std::alloc::Global;
 use std::test::Fail;
 
 /// The first line of a file that has a fault, and its first reason.
 fn refused(alloc: Global, file: &str) -> Option<(u64, FileReason)> {
-    match read_workload(alloc, file.as_bytes()) {
+    refused_bytes(alloc, file.as_bytes())
+}
+
+fn refused_bytes(alloc: Global, file: &[u8]) -> Option<(u64, FileReason)> {
+    match read_workload(alloc, file) {
         Err(FileStop::Bad { line, reason }) => Some((line, reason)),
         _ => None,
     }
@@ -141,6 +145,80 @@ fn every_reason_before_its_neighbour(rt: HostRuntime) {
     }
 }
 
+// Each reason once more, where the next one that can would hold too.
+#[test]
+fn every_reason_again(rt: HostRuntime) {
+    for (file, line, reason) in [
+        ("mope 1\nEND\n1a", 3, FileReason::TextAfterEnd),
+        (
+            "mope 1\nSESSION\nSELECT 0\x7f01\nEND",
+            3,
+            FileReason::BadByte,
+        ),
+        (
+            "mope 1\nSESSION\nDELETE 1_ 18446744073709551616\nEND",
+            3,
+            FileReason::BadToken,
+        ),
+        (
+            "mope 1\nSESSION\nDELETE 18446744073709551616 WHERE\nEND",
+            3,
+            FileReason::TooLarge,
+        ),
+        (
+            "mope 1\nSESSION\nSELECT a,b,c,d,e,f,g,h,i FROM\nEND",
+            3,
+            FileReason::Syntax,
+        ),
+        (
+            "mope 1\nTABLE t (a,b,c,d,e,f,g,h,a)\nEND",
+            2,
+            FileReason::TooMany,
+        ),
+        (
+            "mope 1\nTABLE t (a)\nTABLE t (a,a)\nEND",
+            3,
+            FileReason::RepeatedName,
+        ),
+        (
+            "mope 1\nTABLE t (a)\nSESSION\nBEGIN\nREBUILD u (x)\nEND",
+            5,
+            FileReason::UnknownTable,
+        ),
+        (
+            "mope 1\nTABLE t (a)\nSESSION\nBEGIN\nREBUILD t (A)\nEND",
+            5,
+            FileReason::UnknownColumn,
+        ),
+        (
+            "mope 1\nTABLE t (a)\nSESSION\nINSERT INTO t VALUES (1, 1)\nEND",
+            4,
+            FileReason::WrongWidth,
+        ),
+        ("mope 1\nSESSION\nBEGIN\nEND", 4, FileReason::Transaction),
+        ("mope 1\n\n\n", 4, FileReason::NoEnd),
+    ] {
+        assert_eq!(rt; refused(rt.alloc(), file), Some((line, reason)));
+    }
+}
+
+// A file that is one byte too long is refused before its lines are looked at.
+#[test]
+fn input_too_long(rt: HostRuntime) -> Result<(), Fail> {
+    let alloc = rt.alloc();
+    let mut file = Vec::new(alloc);
+    let lines = [b'\x01'; 1024];
+    for _ in 0..65_536 {
+        file.extend_from_slice(&lines)?;
+    }
+    file.push(b'\n')?;
+    assert_eq!(rt;
+        refused_bytes(alloc, &file),
+        Some((0, FileReason::InputTooLong))
+    );
+    Ok(())
+}
+
 /// A file with this line so many times in its middle.
 fn repeated(alloc: Global, front: &str, line: &str, times: usize) -> Result<Vec<u8>, Fail> {
     let mut file = Vec::new(alloc);
@@ -179,5 +257,47 @@ fn three_hundred_thousand_lines(rt: HostRuntime) -> Result<(), Fail> {
     let w = read_workload(alloc, &file).expect(&rt, "a workload");
     let session = w.sessions.as_slice().first().expect(&rt, "a session");
     assert_eq!(rt; session.as_slice().len(), 300_000);
+    Ok(())
+}
+
+// The worked example of a generated text: the first draw of the number 0 gives a REBUILD.
+#[test]
+fn generate_one(rt: HostRuntime) -> Result<(), Fail> {
+    let text = generate(rt.alloc(), 0, 1, 1).expect(&rt, "a text");
+    let wanted = "mope 1\nTABLE g (a, b)\nSESSION\nREBUILD g (a)\nEND\n";
+    assert_eq!(rt; text.as_slice(), wanted.as_bytes());
+    Ok(())
+}
+
+/// The text begins and ends with these, and has so many bytes.
+fn is_framed(text: &[u8], front: &str, back: &str, size: usize) -> bool {
+    text.len() == size && text.starts_with(front.as_bytes()) && text.ends_with(back.as_bytes())
+}
+
+// The sizes and the ends were computed by a script of another language.
+#[test]
+fn generated_texts(rt: HostRuntime) -> Result<(), Fail> {
+    let alloc = rt.alloc();
+    let text = generate(alloc, 7, 4, 50).expect(&rt, "a text");
+    let front = "mope 1\nTABLE g (a, b)\nSESSION\nBEGIN\nINSERT INTO g VALUES (231, 856753)\n";
+    let back = "INSERT INTO g VALUES (960, 327879)\nEND\n";
+    assert!(rt; is_framed(text.as_slice(), front, back, 9100));
+    let text = generate(alloc, 18446744073709551615, 2, 12).expect(&rt, "a text");
+    let front =
+        "mope 1\nTABLE g (a, b)\nSESSION\nSELECT COUNT(*) FROM g WHERE a BETWEEN 343 AND 677\n";
+    let back = "INSERT INTO g VALUES (806, 917759)\nINSERT INTO g VALUES (867, 844028)\nEND\n";
+    assert!(rt; is_framed(text.as_slice(), front, back, 1062));
+    Ok(())
+}
+
+// What is generated is read.
+#[test]
+fn generated_is_read(rt: HostRuntime) -> Result<(), Fail> {
+    let text = generate(rt.alloc(), 3, 2, 40).expect(&rt, "a text");
+    let w = read_workload(rt.alloc(), text.as_slice()).expect(&rt, "a workload");
+    assert_eq!(rt; w.sessions.as_slice().len(), 2);
+    for script in w.sessions.as_slice() {
+        assert_eq!(rt; script.as_slice().len(), 40);
+    }
     Ok(())
 }

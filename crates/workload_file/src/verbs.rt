@@ -1,6 +1,6 @@
 //! Statements, with their tables and columns numbered.
-ghost use Rattle.std.specs.Prelude.{◌≡◌, ◌≤◌, length, IfOk};
-ghost use Rattle.workload_file.specs.Naming.{column_of};
+ghost use Rattle.std.specs.Prelude.{◌≡◌, ◌<◌, ◌≤◌, None, Some, length, IfOk, IfErr};
+ghost use Rattle.workload_file.specs.Naming.{column_of, table_of};
 ghost use Rattle.workload_file.specs.Resolving.{columns_in, behind, first_columns, tests_in, order_in, rows_in, verb_in, bound, inserted, deleted, selected, rebuilt};
 
 use crate::names::Names;
@@ -189,13 +189,26 @@ fn bound(
     }
 }
 
+/// The number of a table, or that it isn't declared.
+fn known_table(tables: &Tables, name: &Name) -> Result<TableNo, FileReason>
+    ensures found { IfOk result (λ t. table_of tables.now name.now ≡ Some t) }
+    ensures within { IfOk result (λ t. t.0 < length tables.now) }
+    ensures unknown { IfErr result (λ reason. (table_of tables.now name.now ≡ None) × (reason ≡ FileReason.UnknownTable)) }
+{
+    match tables.number_of(name) {
+        Some(table) => Ok(table),
+        None => Err(FileReason::UnknownTable),
+    }
+}
+
 /// An INSERT, or the reason why the tables have no place for it.
 #[tactic(auto, unfolding(crate::specs::Resolving::inserted, crate::specs::Resolving::inserted_in, crate::specs::Resolving::inserted_if))]
 pub fn inserted(tables: &Tables, table: &Name, values: Items<u64>) -> Result<Act, FileReason>
     ensures { result ≡ inserted tables.now table.now values }
 {
-    let Some(table) = tables.number_of(table) else {
-        return Err(FileReason::UnknownTable);
+    let table = match known_table(tables, table) {
+        Ok(table) => table,
+        Err(reason) => return Err(reason),
     };
     if values.as_slice().len() != tables.columns(table).len() {
         return Err(FileReason::WrongWidth);
@@ -213,8 +226,9 @@ pub fn deleted(
 ) -> Result<Result<Act, FileReason>, OutOfMemory>
     ensures { IfOk result (λ act. act ≡ deleted tables.now table.now conds.now) }
 {
-    let Some(table) = tables.number_of(table) else {
-        return Ok(Err(FileReason::UnknownTable));
+    let table = match known_table(tables, table) {
+        Ok(table) => table,
+        Err(reason) => return Ok(Err(reason)),
     };
     let tests = tests_in(alloc, tables.columns(table), conds)?;
     Ok(bound(table, Some(Verb::Delete), tests))
@@ -233,8 +247,9 @@ pub fn selected(
 ) -> Result<Result<Act, FileReason>, OutOfMemory>
     ensures { IfOk result (λ act. act ≡ selected tables.now table.now what conds.now order limit) }
 {
-    let Some(table) = tables.number_of(table) else {
-        return Ok(Err(FileReason::UnknownTable));
+    let table = match known_table(tables, table) {
+        Ok(table) => table,
+        Err(reason) => return Ok(Err(reason)),
     };
     let columns = tables.columns(table);
     let verb = verb_in(alloc, columns, what, order, limit)?;
@@ -247,8 +262,9 @@ pub fn selected(
 pub fn rebuilt(tables: &Tables, table: &Name, column: &Name) -> Result<Piece, FileReason>
     ensures { result ≡ rebuilt tables.now table.now column.now }
 {
-    let Some(table) = tables.number_of(table) else {
-        return Err(FileReason::UnknownTable);
+    let table = match known_table(tables, table) {
+        Ok(table) => table,
+        Err(reason) => return Err(reason),
     };
     match column_of(tables.columns(table), column) {
         Some(column) => Ok(Piece::Rebuild { table, column }),

@@ -21,4 +21,4 @@ lines-preserved c = record {
 pub returns : goal.returns
 returns c =
     let none : length c.lines.rest.now ≡ 0 = search rules in
-    told_of (λ verdict. Leads 1 start (lines_of c.args.bytes.now) verdict) c.ended.result (c.lines.invariant.same c.ended.result (leads_end c.lines.number c.lines.reader c.lines.rest.now c.ended.result none c.ended.ensures))
+    told_of (λ verdict. Leads c.args.number start (lines_of c.args.bytes.now) verdict) c.ended.result (c.lines.invariant.same c.ended.result (leads_end c.lines.number c.lines.reader c.lines.rest.now c.ended.result none c.ended.ensures))

@@ -4,3 +4,4 @@ pub mod NamingLemmas
 pub mod ValidLines
 pub mod ValidActs
 pub mod ValidSteps
+pub mod TextLemmas

@@ -4,3 +4,4 @@ pub mod FileLines
 pub mod Steps
 pub mod WorkloadFile
 pub mod Theorems
+pub mod GeneratedText

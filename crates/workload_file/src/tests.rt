@@ -1,5 +1,5 @@
 //! Files that are read, and every reason why one isn't.
-use crate::{FileReason, FileStop, read_workload};
+use crate::{FileReason, FileStop, generate, read_workload};
 use std::alloc::Global;
 use std::test::Fail;
 
@@ -179,5 +179,47 @@ fn three_hundred_thousand_lines(rt: HostRuntime) -> Result<(), Fail> {
     let w = read_workload(alloc, &file).expect(&rt, "a workload");
     let session = w.sessions.as_slice().first().expect(&rt, "a session");
     assert_eq!(rt; session.as_slice().len(), 300_000);
+    Ok(())
+}
+
+// The worked example of a generated text: the first draw of the number 0 gives a REBUILD.
+#[test]
+fn generate_one(rt: HostRuntime) -> Result<(), Fail> {
+    let text = generate(rt.alloc(), 0, 1, 1).expect(&rt, "a text");
+    let wanted = "mope 1\nTABLE g (a, b)\nSESSION\nREBUILD g (a)\nEND\n";
+    assert_eq!(rt; text.as_slice(), wanted.as_bytes());
+    Ok(())
+}
+
+/// The text begins and ends with these, and has so many bytes.
+fn is_framed(text: &[u8], front: &str, back: &str, size: usize) -> bool {
+    text.len() == size && text.starts_with(front.as_bytes()) && text.ends_with(back.as_bytes())
+}
+
+// The sizes and the ends were computed by a script of another language.
+#[test]
+fn generated_texts(rt: HostRuntime) -> Result<(), Fail> {
+    let alloc = rt.alloc();
+    let text = generate(alloc, 7, 4, 50).expect(&rt, "a text");
+    let front = "mope 1\nTABLE g (a, b)\nSESSION\nBEGIN\nINSERT INTO g VALUES (231, 856753)\n";
+    let back = "INSERT INTO g VALUES (960, 327879)\nEND\n";
+    assert!(rt; is_framed(text.as_slice(), front, back, 9100));
+    let text = generate(alloc, 18446744073709551615, 2, 12).expect(&rt, "a text");
+    let front =
+        "mope 1\nTABLE g (a, b)\nSESSION\nSELECT COUNT(*) FROM g WHERE a BETWEEN 343 AND 677\n";
+    let back = "INSERT INTO g VALUES (806, 917759)\nINSERT INTO g VALUES (867, 844028)\nEND\n";
+    assert!(rt; is_framed(text.as_slice(), front, back, 1062));
+    Ok(())
+}
+
+// What is generated is read.
+#[test]
+fn generated_is_read(rt: HostRuntime) -> Result<(), Fail> {
+    let text = generate(rt.alloc(), 3, 2, 40).expect(&rt, "a text");
+    let w = read_workload(rt.alloc(), text.as_slice()).expect(&rt, "a workload");
+    assert_eq!(rt; w.sessions.as_slice().len(), 2);
+    for script in w.sessions.as_slice() {
+        assert_eq!(rt; script.as_slice().len(), 40);
+    }
     Ok(())
 }

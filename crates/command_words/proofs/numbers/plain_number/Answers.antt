@@ -1,6 +1,6 @@
 use Rattle.std.proofs.Common.{arith, inl, inr}
-use Rattle.mope_top.proofs.DecimalFront.{decimal_plain, IsUtf8-decimal, plain_parsed}
-use Rattle.mope_top.proofs.digits.plain_number.Goals as goal
+use Rattle.command_words.proofs.DecimalLemmas.{decimal_plain, IsUtf8-decimal, plain_parsed}
+use Rattle.command_words.proofs.numbers.plain_number.Goals as goal
 
 pub returns-then-has_sign_or_leading_zero : goal.returns-then-has_sign_or_leading_zero
 returns-then-has_sign_or_leading_zero c n fits e =

@@ -22,9 +22,7 @@ use crate::plain::{judge_plainly, refused};
 use crate::replay::run_statements;
 use crate::statement_reader::read_first_form;
 use command_words::{Order, read_order};
-use mope_base::{
-    OutOfMemory, ReadStop, SessionNo, Sink, Source, Status, read_all, write_all,
-};
+use mope_base::{OutOfMemory, ReadStop, SessionNo, Sink, Source, Status, read_all, write_all};
 use std::alloc::Global;
 use value_cipher::Key;
 use workload_file::{FileReason, generate};

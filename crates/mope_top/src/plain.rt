@@ -45,11 +45,7 @@ fn told(alloc: Global, w: &Workload, turns: &[SessionNo]) -> Result<Verdict, Sta
     }
 }
 
-fn plain_text(
-    alloc: Global,
-    w: &Workload,
-    turns: &[SessionNo],
-) -> Result<Items<u8>, OutOfMemory>
+fn plain_text(alloc: Global, w: &Workload, turns: &[SessionNo]) -> Result<Items<u8>, OutOfMemory>
     requires { IsValid w.now }
     ensures { IfOk result (λ text. text ≡ plain_report w.now turns.now) }
 {

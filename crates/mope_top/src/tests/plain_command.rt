@@ -75,7 +75,10 @@ static TOLD: [(&str, &str); 5] = [
 fn empty_table_inverted_between_limit_zero_rollback(rt: HostRuntime) -> Result<(), Fail> {
     for (lines, report) in TOLD {
         let input = format!(in rt.alloc(); "{HEAD}{lines}")?;
-        assert!(rt; gives(&rt, "plain", &input, Status::Done, report)?, "at {lines}");
+        assert!(rt;
+            gives(&rt, "plain", &input, Status::Done, report)?,
+            "at {lines}"
+        );
     }
     Ok(())
 }
@@ -137,14 +140,8 @@ static REFUSED: [(&str, &str); 8] = [
         "mope 1\nTABLE t (a)\nSESSION\nINSERT INTO t VALUES (18446744073709551616)\nEND\n",
         "error line 4: number too large\n",
     ),
-    (
-        "mope 1\nTABLE t (a)\nSESSION\n",
-        "error line 4: no END\n",
-    ),
-    (
-        "mope 1\nEND\nx\n",
-        "error line 3: text after END\n",
-    ),
+    ("mope 1\nTABLE t (a)\nSESSION\n", "error line 4: no END\n"),
+    ("mope 1\nEND\nx\n", "error line 3: text after END\n"),
     (
         "mope 1\nTABLE t (a)\nSESSION\nBEGIN\nBEGIN\nEND\n",
         "error line 5: transaction\n",
@@ -155,7 +152,10 @@ static REFUSED: [(&str, &str); 8] = [
 #[test]
 fn refusals(rt: HostRuntime) -> Result<(), Fail> {
     for (input, line) in REFUSED {
-        assert!(rt; gives(&rt, "plain", input, Status::Input, line)?, "at {line}");
+        assert!(rt;
+            gives(&rt, "plain", input, Status::Input, line)?,
+            "at {line}"
+        );
     }
     Ok(())
 }
@@ -176,8 +176,7 @@ fn wrong_words(rt: HostRuntime) -> Result<(), Fail> {
 
 #[test]
 fn failing_devices(rt: HostRuntime) -> Result<(), Fail> {
-    let input =
-        "mope 1\nTABLE t (a)\nSESSION\nSELECT COUNT(*) FROM t\nSELECT MIN(a) FROM t\nEND\n";
+    let input = "mope 1\nTABLE t (a)\nSESSION\nSELECT COUNT(*) FROM t\nSELECT MIN(a) FROM t\nEND\n";
     let source = Device { piece: 4, fails: 2 };
     let (status, written) = call(rt.alloc(), "plain", input, source, Device::SOUND)?;
     assert!(rt; status == Status::ReadFault && written.is_empty());

@@ -124,13 +124,7 @@ fn with_digits(alloc: Global, line: &str) -> Result<String, OutOfMemory> {
 /// The status that a line of words gives, on an input that every command takes.
 fn status_of(alloc: Global, line: &str) -> Result<Status, OutOfMemory> {
     let words = with_digits(alloc, line)?;
-    let (status, _written) = call(
-        alloc,
-        &words,
-        FIRST_RUN,
-        Device::SOUND,
-        Device::SOUND,
-    )?;
+    let (status, _written) = call(alloc, &words, FIRST_RUN, Device::SOUND, Device::SOUND)?;
     Ok(status)
 }
 

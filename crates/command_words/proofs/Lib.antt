@@ -4,4 +4,6 @@ pub mod RuleLemmas
 pub mod StepLemmas
 pub mod WalkLemmas
 pub mod ProgramLemmas
+pub mod DecimalLemmas
+pub mod NumberLemmas
 pub mod OrderLemmas

@@ -1,12 +1,14 @@
 -- What right words order: a command with the values of its own options.
-use Rattle.std.specs.Prelude.{◌≡◌, ◌||◌, Bool, true, not, List, [], ◌∷◌, length, codes, Some, Ok, is_some, if◌then◌else◌}
-use Rattle.std.specs.List.{list_all, list_any}
+use Rattle.std.specs.Prelude.{◌≡◌, ◌≤◌, ◌==◌, ◌||◌, ℕ, Bool, true, not, List, [], ◌∷◌, length, codes, Option, None, Some, Ok, is_some, if◌then◌else◌}
+use Rattle.std.specs.Fmt.{decimal}
+use Rattle.std.specs.List.{list_all, list_any, slice_split}
 use Rattle.std.specs.Str.{bytes_eq}
 use Rattle.hex.specs.Hex.{decode_of}
+use Rattle.mope_base.specs.declared.numbers.SessionNo.{SessionNo}
 use Rattle.value_cipher.specs.declared.Key.{Key}
 use Rattle.command_words.specs.Grammar.{Known, Text, Use, command_name, has, options, spelled, value_of}
 use Rattle.command_words.specs.declared.order.Order.{Order}
-use Rattle.command_words.specs.declared.order.Order.TheVariants.{Replay}
+use Rattle.command_words.specs.declared.order.Order.TheVariants.{Replay, Plain, Generate}
 
 -- the option stands among the uses: with its value, or as a flag
 abbrev pub stands : Known → List Use → Bool
@@ -29,8 +31,62 @@ pub record IsReplay (uses : List Use) (key : Key) : Type 0 where
   pub given : value_of (codes "key") uses ≡ Some digits
   pub spells : SpellsKey digits key
 
+-- the text is a number in decimal digits without a sign or a leading zero, within both ends
+abbrev pub SpellsNumber : ℕ → ℕ → Text → ℕ → Type 0
+SpellsNumber low high digits n = (low ≤ n) × (n ≤ high) × (digits ≡ decimal n)
+
+-- the number that an option gives, or another where the option doesn't stand
+abbrev pub NumberOr : ℕ → ℕ → ℕ → Option Text → ℕ → Type 0
+NumberOr low high other None n = n ≡ other
+NumberOr low high other (Some digits) n = SpellsNumber low high digits n
+
+-- the texts are the numbers of these sessions, from 1 to 64
+unfoldable pub AreSessions : List Text → List SessionNo → Type 0
+AreSessions [] [] = Unit {0}
+AreSessions [] (s ∷ sessions) = ⊥
+AreSessions (digits ∷ texts) [] = ⊥
+AreSessions (digits ∷ texts) (s ∷ sessions) = SpellsNumber 1 64 digits s.0 × AreSessions texts sessions
+
+-- the text is the numbers of these sessions, joined by single commas
+abbrev pub SpellsTurns : Text → List SessionNo → Type 0
+SpellsTurns text turns = AreSessions (slice_split (λ byte. byte == 44) text) turns
+
+-- the turns that an option gives, or none where the option doesn't stand
+abbrev pub TurnsOr : Option Text → List SessionNo → Type 0
+TurnsOr None turns = turns ≡ []
+TurnsOr (Some text) turns = SpellsTurns text turns
+
+-- the name of a mode, if one stands
+abbrev pub is_mode : Option Text → Bool
+is_mode None = true
+is_mode (Some text) = bytes_eq text (codes "ordinary") || bytes_eq text (codes "same-time")
+
+-- the command `plain`, with the option `--turns` or none
+pub record IsPlain (uses : List Use) (turns : List SessionNo) : Type 0 where
+  pub command : value_of command_name uses ≡ Some (codes "plain")
+  pub own : takes_only (codes "turns" ∷ []) uses ≡ true
+  pub given : TurnsOr (value_of (codes "turns") uses) turns
+
+-- the options of the command `generate`
+abbrev pub generate_options : List Text
+generate_options = codes "number" ∷ codes "sessions" ∷ codes "transactions" ∷ codes "mode" ∷ codes "text" ∷ []
+
+-- the command `generate` with `--number` and `--text`, and with other options of its own
+pub record IsGenerate (uses : List Use) (number sessions transactions : ℕ) : Type 0 where
+  pub command : value_of command_name uses ≡ Some (codes "generate")
+  pub own : takes_only generate_options uses ≡ true
+  pub as_text : has (codes "text") uses ≡ true
+  pub mode : is_mode (value_of (codes "mode") uses) ≡ true
+  pub digits : Text
+  pub number_given : value_of (codes "number") uses ≡ Some digits
+  pub number_is : SpellsNumber 0 18446744073709551615 digits number
+  pub sessions_given : NumberOr 1 64 4 (value_of (codes "sessions") uses) sessions
+  pub transactions_given : NumberOr 1 1000 50 (value_of (codes "transactions") uses) transactions
+
 abbrev pub IsOrder : List Use → Order → Type 0
 IsOrder uses (Replay key) = IsReplay uses key
+IsOrder uses (Plain turns) = IsPlain uses turns
+IsOrder uses (Generate number sessions transactions) = IsGenerate uses number sessions transactions
 
 -- the words are right and order this
 pub record AreWords (words : List Text) (order : Order) : Type 0 where

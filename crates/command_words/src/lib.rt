@@ -3,8 +3,10 @@
 
 mod given;
 pub mod laws;
+mod numbers;
 mod order;
 
+pub use numbers::plain_number;
 pub use order::{Order, read_order};
 
 #[cfg(test)]

@@ -1,15 +1,29 @@
 -- What the texts of the statuses say where the bytes of the input are known.
-use Rattle.std.proofs.Common.{◌≡◌, refl, sym, ◌∙◌, ap, subst, ℕ, ◌≤◌, List, [], ◌++◌, length, Option, None, Some, inl, inr, arith}
+use Rattle.std.proofs.Common.{◌≡◌, refl, sym, ◌∙◌, ap, subst, ℕ, ◌<◌, ◌≤◌, true, nat_lt, List, [], ◌++◌, length, Option, None, Some, Result, Ok, Err, inl, inr, arith}
+use Rattle.std.proofs.lemmas.Bool.{lt-ltb}
 use Rattle.std.proofs.lemmas.List.{append-nil, length-append}
 use Rattle.std.specs.Io.KnownBytes.{Appends, Consumes, IsAtEnd}
+use Rattle.mope_base.specs.declared.numbers.SessionNo.{SessionNo}
 use Rattle.mope_base.specs.declared.status.Status.{Status}
 use Rattle.mope_base.specs.declared.status.Status.TheVariants.{Done, Usage, Input, Memory, ReadFault, WriteFault}
-use Rattle.workload.specs.Report.{report}
-use Rattle.mope_top.specs.Batch.{AreRight, ReportsAll, Refuses, HasText, StopsEarly, WritesOrMemory, usage_text, input_text}
+use Rattle.value_cipher.specs.declared.Key.{Key}
+use Rattle.workload.specs.declared.script.Workload.{Workload}
+use Rattle.workload.specs.Report.{plain_report, report}
+use Rattle.workload_file.specs.GeneratedText.{generated}
+use Rattle.workload_file.specs.WorkloadFile.{Verdict, GivesUnless, GivesVerdict, IsWorkloadFile, is_too_long}
+use Rattle.workload_file.specs.declared.stops.FileReason.{FileReason}
+use Rattle.workload_file.specs.declared.stops.FileReason.TheVariants as reason
+use Rattle.workload_file.specs.declared.stops.FileStop.TheVariants as stop
+use Rattle.workload_file.proofs.OneVerdict.{one_verdict}
+use Rattle.mope_top.specs.Batch.{AreReading, Does, HasSizes, HasText, IsTooLong, NamesFault, Obeys, Outputs, Reads, ReadsAll, Refuses, Reports, Stops, StopsEarly, TellsPlainly, WritesOrMemory, usage_text, input_text}
+use Rattle.mope_top.specs.FaultText.{fault_text}
 use Rattle.mope_top.specs.FirstForm.{IsFirstForm, IsNotFirstForm}
 use Rattle.mope_top.specs.FirstRun.{workload_of}
-use Rattle.command_words.specs.Orders.{AreNoWords}
-use Rattle.command_words.specs.declared.order.Order.TheVariants.{Replay}
+use Rattle.command_words.specs.Grammar.{Text, Use}
+use Rattle.command_words.specs.Orders.{AreNoWords, AreWords, IsOrder, NumberOr}
+use Rattle.command_words.specs.declared.order.Order.{Order}
+use Rattle.command_words.specs.declared.order.Order.TheVariants.{Replay, Plain, Generate}
+use Rattle.command_words.proofs.OrderLemmas.{words-same}
 use Rattle.mope_top.specs.declared.first_form.Statement.{Statement}
 use Rattle.mope_top.proofs.FirstFormLaws.{first_form_same}
 
@@ -23,50 +37,136 @@ taken_within : (left : List ℕ) (new : Option (List ℕ)) (bytes : List ℕ) �
 taken_within left None bytes taken = absurd taken
 taken_within left (Some rest) bytes taken = omega (arith, ap length taken, length-append bytes rest)
 
--- the whole of an input of the first form is reported, and not refused
-reports-first_form : (left : List ℕ) (new : Option (List ℕ)) (text : List ℕ) (statements : List Statement)
-    → IsFirstForm left statements → ReportsAll (Some left) new text → text ≡ report 0 (workload_of statements) []
-reports-first_form left new text statements form all =
-    let same : left ≡ all.bytes = taken_all left new all.bytes all.all.taken all.all.ended in
-    let spelled : IsFirstForm left all.reports.statements = rw same all.reports.spelled in
-    all.reports.text_is ∙ ap (λ s. report 0 (workload_of s) []) (first_form_same left all.reports.statements statements spelled form)
+-- what a status does under right words is what their order does
+obeyed : (status : Status) (words : List (List ℕ)) (old new : Option (List ℕ)) (text : List ℕ) (order : Order) → AreWords words order
+    → Obeys status words old new text → Does order status old new text
+obeyed status words old new text order right obeys =
+    subst (λ o. Does o status old new text) (words-same words obeys.order order obeys.words_are right) obeys.does
 
-refuses-first_form : (left : List ℕ) (new : Option (List ℕ)) (statements : List Statement)
-    → IsFirstForm left statements → Refuses (Some left) new → ⊥
-refuses-first_form left new statements form (inl all) =
-    all.refused statements (subst (λ bytes. IsFirstForm bytes statements) (taken_all left new all.bytes all.all.taken all.all.ended) form)
-refuses-first_form left new statements form (inr many) =
-    absurd (omega (arith, taken_within left new many.bytes many.taken, many.long, form.short))
+-- what is so of the bytes of a whole input is so of what was left of it
+of_left : (left : List ℕ) (new : Option (List ℕ)) (Is : List ℕ → Type 0) → ReadsAll (Some left) new Is → Is left
+of_left left new Is all = subst Is (sym (taken_all left new all.bytes all.all.taken all.all.ended)) all.is
 
--- with right words and an input of the first form, a text is its report
-pub text-first_form : (status : Status) (words : List (List ℕ)) (left : List ℕ) (new : Option (List ℕ)) (text : List ℕ) (statements : List Statement)
-    → AreRight words → IsFirstForm left statements → HasText status words (Some left) new text
+too_long : (left : List ℕ) (new : Option (List ℕ)) → IsTooLong (Some left) new → 67108864 < length left
+too_long left new many = omega (arith, taken_within left new many.bytes many.taken, many.long)
+
+-- `replay`: with an input of the first form, a text is its report
+pub text-first_form : (status : Status) (words : List (List ℕ)) (left : List ℕ) (new : Option (List ℕ)) (text : List ℕ) (key : Key) (statements : List Statement)
+    → AreWords words (Replay key) → IsFirstForm left statements → HasText status words (Some left) new text
     → (status ≡ Done) × (text ≡ report 0 (workload_of statements) [])
-text-first_form Done words left new text statements right form has = (refl, reports-first_form left new text statements form has.1)
-text-first_form Usage words left new text statements right form has = absurd (has.0 (Replay right.key) right.words_are)
-text-first_form Input words left new text statements right form has = absurd (refuses-first_form left new statements form has.1)
-text-first_form Memory words left new text statements right form has = absurd has
-text-first_form ReadFault words left new text statements right form has = absurd has
-text-first_form WriteFault words left new text statements right form has = absurd has
+text-first_form Done words left new text key statements right form has =
+    let out : Reports left text = of_left left new (λ bytes. Reports bytes text) (obeyed Done words (Some left) new text (Replay key) right has) in
+    (refl, out.text_is ∙ ap (λ s. report 0 (workload_of s) []) (first_form_same left out.statements statements out.spelled form))
+text-first_form Usage words left new text key statements right form has = absurd (has.0 (Replay key) right)
+text-first_form Input words left new text key statements right form has =
+    elim (obeyed Input words (Some left) new text (Replay key) right has).0 [
+      | inl all ↦ absurd (of_left left new IsNotFirstForm all statements form)
+      | inr many ↦ absurd (omega (arith, too_long left new many, form.short))
+    ]
+text-first_form Memory words left new text key statements right form has = absurd has
+text-first_form ReadFault words left new text key statements right form has = absurd has
+text-first_form WriteFault words left new text key statements right form has = absurd has
 
--- with right words and an input that isn't of the first form, a text is the refusal
-pub text-not_first_form : (status : Status) (words : List (List ℕ)) (left : List ℕ) (new : Option (List ℕ)) (text : List ℕ)
-    → AreRight words → IsNotFirstForm left → HasText status words (Some left) new text
+-- and with an input that isn't of it, a text is the refusal
+pub text-not_first_form : (status : Status) (words : List (List ℕ)) (left : List ℕ) (new : Option (List ℕ)) (text : List ℕ) (key : Key)
+    → AreWords words (Replay key) → IsNotFirstForm left → HasText status words (Some left) new text
     → (status ≡ Input) × (text ≡ input_text)
-text-not_first_form Done words left new text right form has =
-    absurd (form has.1.reports.statements (subst (λ bytes. IsFirstForm bytes has.1.reports.statements) (sym (taken_all left new has.1.bytes has.1.all.taken has.1.all.ended)) has.1.reports.spelled))
-text-not_first_form Usage words left new text right form has = absurd (has.0 (Replay right.key) right.words_are)
-text-not_first_form Input words left new text right form has = (refl, has.2)
-text-not_first_form Memory words left new text right form has = absurd has
-text-not_first_form ReadFault words left new text right form has = absurd has
-text-not_first_form WriteFault words left new text right form has = absurd has
+text-not_first_form Done words left new text key right form has =
+    let out : Reports left text = of_left left new (λ bytes. Reports bytes text) (obeyed Done words (Some left) new text (Replay key) right has) in
+    absurd (form out.statements out.spelled)
+text-not_first_form Usage words left new text key right form has = absurd (has.0 (Replay key) right)
+text-not_first_form Input words left new text key right form has = (refl, (obeyed Input words (Some left) new text (Replay key) right has).1)
+text-not_first_form Memory words left new text key right form has = absurd has
+text-not_first_form ReadFault words left new text key right form has = absurd has
+text-not_first_form WriteFault words left new text key right form has = absurd has
+
+-- what a verdict says of a file
+workload_in : Workload → Verdict → Workload
+workload_in other (Ok w) = w
+workload_in other (Err why) = other
+
+fault_in : Verdict → List ℕ
+fault_in (Ok w) = []
+fault_in (Err (stop.Bad line why)) = fault_text line why
+fault_in (Err stop.OutOfMemory) = []
+
+long_gives : (left : List ℕ) (verdict : Verdict) → 67108864 < length left → GivesVerdict left verdict → verdict ≡ Err (stop.Bad 0 reason.InputTooLong)
+unfolding is_too_long GivesUnless
+long_gives left verdict long gives =
+    subst (λ b. GivesUnless b left verdict) (lt-ltb 67108864 (length left) long) gives
+
+-- `plain`: with the file of a workload, a text is its plain report
+pub text-file : (status : Status) (words : List (List ℕ)) (left : List ℕ) (new : Option (List ℕ)) (text : List ℕ) (turns : List SessionNo) (w : Workload)
+    → AreWords words (Plain turns) → IsWorkloadFile left w → HasText status words (Some left) new text
+    → (status ≡ Done) × (text ≡ plain_report w turns)
+unfolding workload_in
+text-file Done words left new text turns w right file has =
+    let out : TellsPlainly turns left text = of_left left new (λ bytes. TellsPlainly turns bytes text) (obeyed Done words (Some left) new text (Plain turns) right has) in
+    (refl, out.text_is ∙ ap (λ v. plain_report (workload_in w v) turns) (one_verdict left (Ok out.w) (Ok w) out.spelled file))
+text-file Usage words left new text turns w right file has = absurd (has.0 (Plain turns) right)
+text-file Input words left new text turns w right file has =
+    elim (obeyed Input words (Some left) new text (Plain turns) right has) [
+      | inl all ↦
+          let fault : NamesFault left text = of_left left new (λ bytes. NamesFault bytes text) all in
+          let same : Err (stop.Bad fault.line fault.why) ≡ Ok w = one_verdict left (Err (stop.Bad fault.line fault.why)) (Ok w) fault.fault file in
+          cc
+      | inr many ↦ let same : Ok w ≡ Err (stop.Bad 0 reason.InputTooLong) = long_gives left (Ok w) (too_long left new many.0) file in cc
+    ]
+text-file Memory words left new text turns w right file has = absurd has
+text-file ReadFault words left new text turns w right file has = absurd has
+text-file WriteFault words left new text turns w right file has = absurd has
+
+-- and with a file that has a fault, a text is its line
+pub text-fault : (status : Status) (words : List (List ℕ)) (left : List ℕ) (new : Option (List ℕ)) (text : List ℕ) (turns : List SessionNo) (line : ℕ) (why : FileReason)
+    → AreWords words (Plain turns) → GivesVerdict left (Err (stop.Bad line why)) → HasText status words (Some left) new text
+    → (status ≡ Input) × (text ≡ fault_text line why)
+unfolding fault_in
+text-fault Done words left new text turns line why right file has =
+    let out : TellsPlainly turns left text = of_left left new (λ bytes. TellsPlainly turns bytes text) (obeyed Done words (Some left) new text (Plain turns) right has) in
+    let same : Ok out.w ≡ Err (stop.Bad line why) = one_verdict left (Ok out.w) (Err (stop.Bad line why)) out.spelled file in
+    cc
+text-fault Usage words left new text turns line why right file has = absurd (has.0 (Plain turns) right)
+text-fault Input words left new text turns line why right file has =
+    elim (obeyed Input words (Some left) new text (Plain turns) right has) [
+      | inl all ↦
+          let fault : NamesFault left text = of_left left new (λ bytes. NamesFault bytes text) all in
+          (refl, fault.text_is ∙ ap fault_in (one_verdict left (Err (stop.Bad fault.line fault.why)) (Err (stop.Bad line why)) fault.fault file))
+      | inr many ↦ (refl, many.1 ∙ ap fault_in (sym (long_gives left (Err (stop.Bad line why)) (too_long left new many.0) file)))
+    ]
+text-fault Memory words left new text turns line why right file has = absurd has
+text-fault ReadFault words left new text turns line why right file has = absurd has
+text-fault WriteFault words left new text turns line why right file has = absurd has
+
+-- `generate`: a text is the one that it draws
+pub text-generated : (status : Status) (words : List (List ℕ)) (old new : Option (List ℕ)) (text : List ℕ) (number sessions transactions : ℕ)
+    → AreWords words (Generate number sessions transactions) → HasText status words old new text
+    → (status ≡ Done) × (text ≡ generated number sessions transactions)
+text-generated Done words old new text number sessions transactions right has =
+    (refl, (obeyed Done words old new text (Generate number sessions transactions) right has).1)
+text-generated Usage words old new text number sessions transactions right has = absurd (has.0 (Generate number sessions transactions) right)
+text-generated Input words old new text number sessions transactions right has =
+    absurd (obeyed Input words old new text (Generate number sessions transactions) right has)
+text-generated Memory words old new text number sessions transactions right has = absurd has
+text-generated ReadFault words old new text number sessions transactions right has = absurd has
+text-generated WriteFault words old new text number sessions transactions right has = absurd has
+
+-- and a call that stops early wants memory
+pub stops-generated : (status : Status) (words : List (List ℕ)) (reads read number sessions transactions : ℕ)
+    → AreWords words (Generate number sessions transactions) → StopsEarly status words reads read → status ≡ Memory
+stops-generated Done words reads read number sessions transactions right stops = absurd stops
+stops-generated Usage words reads read number sessions transactions right stops = absurd stops
+stops-generated Input words reads read number sessions transactions right stops = absurd stops
+stops-generated Memory words reads read number sessions transactions right stops = refl
+stops-generated ReadFault words reads read number sessions transactions right stops =
+    absurd (subst Reads (words-same words stops.0.order (Generate number sessions transactions) stops.0.words_are right) stops.0.reads)
+stops-generated WriteFault words reads read number sessions transactions right stops = absurd stops
 
 -- with wrong words a text is their refusal
 pub text-wrong_words : (status : Status) (words : List (List ℕ)) (old new : Option (List ℕ)) (text : List ℕ)
     → AreNoWords words → HasText status words old new text → (status ≡ Usage) × (text ≡ usage_text)
-text-wrong_words Done words old new text wrong has = absurd (wrong (Replay has.0.key) has.0.words_are)
+text-wrong_words Done words old new text wrong has = absurd (wrong has.order has.words_are)
 text-wrong_words Usage words old new text wrong has = (refl, has.1)
-text-wrong_words Input words old new text wrong has = absurd (wrong (Replay has.0.key) has.0.words_are)
+text-wrong_words Input words old new text wrong has = absurd (wrong has.order has.words_are)
 text-wrong_words Memory words old new text wrong has = absurd has
 text-wrong_words ReadFault words old new text wrong has = absurd has
 text-wrong_words WriteFault words old new text wrong has = absurd has
@@ -78,8 +178,49 @@ stops-wrong_words Done words reads read wrong stops = absurd stops
 stops-wrong_words Usage words reads read wrong stops = absurd stops
 stops-wrong_words Input words reads read wrong stops = absurd stops
 stops-wrong_words Memory words reads read wrong stops = refl
-stops-wrong_words ReadFault words reads read wrong stops = absurd (wrong (Replay stops.0.key) stops.0.words_are)
+stops-wrong_words ReadFault words reads read wrong stops = absurd (wrong stops.0.order stops.0.words_are)
 stops-wrong_words WriteFault words reads read wrong stops = absurd stops
+
+-- what an order does and why it stops, under the words that order it
+
+pub has-text : (status : Status) (words : List (List ℕ)) (old new : Option (List ℕ)) (text : List ℕ) (order : Order) → AreWords words order
+    → Does order status old new text → HasText status words old new text
+has-text Done words old new text order right does = record { order = order; words_are = right; does = does }
+has-text Usage words old new text order right does = absurd does
+has-text Input words old new text order right does = record { order = order; words_are = right; does = does }
+has-text Memory words old new text order right does = absurd does
+has-text ReadFault words old new text order right does = absurd does
+has-text WriteFault words old new text order right does = absurd does
+
+pub stops-early : (status : Status) (words : List (List ℕ)) (reads read : ℕ) (order : Order) → AreWords words order
+    → Stops order status reads read → StopsEarly status words reads read
+stops-early Done words reads read order right stops = absurd stops
+stops-early Usage words reads read order right stops = absurd stops
+stops-early Input words reads read order right stops = absurd stops
+stops-early Memory words reads read order right stops = tt
+stops-early ReadFault words reads read order right stops = (record { order = order; words_are = right; reads = stops.0 }, stops.1)
+stops-early WriteFault words reads read order right stops = absurd stops
+
+number-within : (low high other : ℕ) (word : Option Text) (n : ℕ) → low ≤ other → other ≤ high → NumberOr low high other word n → (low ≤ n) × (n ≤ high)
+number-within low high other None n from to given = (omega (arith, given, from), omega (arith, given, to))
+number-within low high other (Some digits) n from to given = (given.0, given.1)
+
+uses-sizes : (uses : List Use) (order : Order) → IsOrder uses order → HasSizes order
+uses-sizes uses (Replay key) ordered = tt
+uses-sizes uses (Plain turns) ordered = tt
+uses-sizes uses (Generate number sessions transactions) ordered =
+    let s = number-within 1 64 4 _ sessions (omega arith) (omega arith) ordered.sessions_given in
+    let t = number-within 1 1000 50 _ transactions (omega arith) (omega arith) ordered.transactions_given in
+    (omega (arith, s.0), s.1, omega (arith, t.0), t.1)
+
+pub words-sizes : (words : List (List ℕ)) (order : Order) → AreWords words order → HasSizes order
+words-sizes words order right = uses-sizes right.uses order right.ordered
+
+-- `generate` reads nothing
+pub generate-unread : (words : List (List ℕ)) (order : Order) (number sessions transactions : ℕ) → AreWords words order
+    → AreWords words (Generate number sessions transactions) → ¬ Reads order
+generate-unread words order number sessions transactions right generates reads =
+    subst Reads (words-same words order (Generate number sessions transactions) right generates) reads
 
 -- a text that was written is the wanted one
 pub wrote : (status wanted : Status) (was is : Option (List ℕ)) (text wanted_text : List ℕ)

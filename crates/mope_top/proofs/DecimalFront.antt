@@ -4,19 +4,8 @@ use Rattle.std.specs.Char.{IsAsciiDigit}
 use Rattle.std.specs.Fmt.{decimal}
 use Rattle.std.proofs.lemmas.Bool.{cases_order}
 use Rattle.std.proofs.lemmas.List.{get_or_append_left, get_or-append-add}
-use Rattle.std.proofs.lemmas.Str.Parse.{tells_by_index, numerals_by_value, parse_plain, IsNumeralModel}
 use Rattle.std.proofs.lemmas.Fmt.{digits_decimal, decimal_injective, decimal_nonempty, decimal_digit, first_decimal, decimal-digits_value, parse-decimal, IsAscii-decimal}
-use Rattle.std.proofs.lemmas.Str.{IsUtf8-from_ascii}
-use Rattle.std.specs.Str.{IsUtf8}
-use Rattle.std.specs.Str.Parse.{ParsesUnsigned, digits_value}
-use Rattle.std.specs.Result.{result_ok}
-
--- each byte is a digit
-abbrev pub AreDigits : List ℕ → Type 0
-AreDigits ds = (k : ℕ) → k < length ds → IsAsciiDigit (get_or ds k 0)
-
-pub decimal_digits : (n : ℕ) → n < 2 ^ 64 → AreDigits (decimal n)
-decimal_digits n fits = digits_decimal (numerals_by_value _ tells_by_index) n fits
+use Rattle.command_words.proofs.DecimalLemmas.{AreDigits, decimal_digits}
 
 -- digits and then no digit end at one place only
 pub digits_end_at : (bytes ds rest : List ℕ) (at : ℕ) → AreDigits ds → ¬ IsAsciiDigit (get_or rest 0 0) → bytes ≡ ds ++ rest → ((k : ℕ) → k < at → IsAsciiDigit (get_or bytes k 0)) → ¬ IsAsciiDigit (get_or bytes at 0) → length ds ≡ at
@@ -43,29 +32,6 @@ decimal_front m n xs ys m_fits n_fits xs_ends ys_ends e =
     λ d. xs_ends (subst IsAsciiDigit (ap (λ k. get_or (decimal m ++ xs) k 0) (omega arith) ∙ get_or-append-add (decimal m) xs 0 0) d) in
     let parts = digits_split_at (decimal m ++ xs) (decimal n) ys (length (decimal m)) (decimal_digits n n_fits) ys_ends e before stop in
     (decimal_injective m n m_fits n_fits (sym (take_at (decimal m) xs (length (decimal m)) refl) ∙ parts.0), sym (drop_at (decimal m) xs (length (decimal m)) refl) ∙ parts.1)
-
-own_words : IsNumeralModel AreDigits (digits_value 10)
-own_words = numerals_by_value _ tells_by_index
-
--- a decimal text begins with no sign, and with a zero only where it is `0`
-pub decimal_plain : (n : ℕ) → n < 2 ^ 64 → (get_or (decimal n) 0 0 ≢ 43) × (get_or (decimal n) 0 0 ≡ 48 → length (decimal n) ≤ 1)
-decimal_plain n fits = (
-  λ e. let digit = decimal_digits n fits 0 (decimal_nonempty n fits) in omega (arith, digit.0),
-  λ e. elim (eq-zero-or-pos n) [
-    | inl zero ↦ rw (zero, decimal_digit 0 (lit< tt)) (lit≤ tt)
-    | inr some ↦ absurd (omega (arith, first_decimal n some fits))
-  ],
-)
-
-pub IsUtf8-decimal : (n : ℕ) → n < 2 ^ 64 → IsUtf8 (decimal n)
-IsUtf8-decimal n fits = IsUtf8-from_ascii (decimal n) (IsAscii-decimal n fits)
-
--- what `parse` reads of a text that begins plainly
-pub plain_parsed : {E : Type 0} (text : List ℕ) (r : Result ℕ E) → ParsesUnsigned 64 10 text r → get_or text 0 0 ≢ 43 → (get_or text 0 0 ≡ 48 → length text ≤ 1) → MatchOption (result_ok r) ((n : ℕ) → n < 2 ^ 64 → text ≢ decimal n) (λ n. (n < 2 ^ 64) × (text ≡ decimal n))
-plain_parsed {E} text (Ok v) h no_sign no_zero =
-    let parts = parse_plain own_words {E = E} 64 text (Ok v) h no_sign in
-    (rw parts.1 parts.0.2, rw parts.1 (sym (decimal-digits_value own_words text parts.0.0 parts.0.1 (λ e. let one : length text ≤ 1 = no_zero e in let some : 0 < length text = parts.0.1 in omega arith) parts.0.2)))
-plain_parsed text (Err d) h no_sign no_zero = λ n fits e. let ok = parse-decimal 64 n text (Err d) fits fits e h in cc
 
 -- a number and then a text that begins with no digit
 pub number_parts : (bytes after rest : List ℕ) (at n : ℕ) → 0 < length after → ¬ IsAsciiDigit (get_or after 0 0) → n < 2 ^ 64 → bytes ≡ decimal n ++ (after ++ rest) → ((k : ℕ) → k < at → IsAsciiDigit (get_or bytes k 0)) → ¬ IsAsciiDigit (get_or bytes at 0) → (take at bytes ≡ decimal n) × (drop at bytes ≡ after ++ rest)

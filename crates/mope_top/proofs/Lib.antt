@@ -4,6 +4,8 @@ pub mod FirstFormLines
 pub mod FirstFormLaws
 pub mod FirstRunLemmas
 mod BatchLemmas
+mod DoingLemmas
+mod RefusalLemmas
 pub mod ReportLines
 pub mod WalkLemmas
 pub mod RowLemmas

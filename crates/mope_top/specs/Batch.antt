@@ -1,6 +1,6 @@
 -- How a call of the program ends: its words, its input and its output before and after. What a stream tells of its bytes
 -- may be nothing; then the clauses on them say nothing.
-use Rattle.std.specs.Prelude.{◌≡◌, ℕ, ◌++◌, ◌∷◌, [], ◌⊎◌, List, codes, Option}
+use Rattle.std.specs.Prelude.{◌≡◌, ℕ, ◌<◌, ◌≤◌, ◌++◌, ◌∷◌, [], ◌⊎◌, List, codes, Option, Err}
 use Rattle.std.specs.Io.KnownBytes.{Appends, Keeps}
 use Rattle.mope_base.specs.declared.numbers.SessionNo.{SessionNo}
 use Rattle.mope_base.specs.declared.status.Status.{Status}
@@ -8,21 +8,34 @@ use Rattle.mope_base.specs.declared.status.Status.TheVariants.{Done, Usage, Inpu
 use Rattle.mope_base.specs.Faults.{Rose}
 use Rattle.mope_base.specs.ReadAll.{TakesAll, TakesExactly}
 use Rattle.mope_base.specs.WriteAll.{AppendsFront}
-use Rattle.value_cipher.specs.declared.Key.{Key}
 use Rattle.workload.specs.declared.script.Workload.{Workload}
-use Rattle.workload.specs.Report.{report}
+use Rattle.workload.specs.Report.{plain_report, report}
 use Rattle.workload.specs.Run.{run, turns_taken, IsComplete}
 use Rattle.workload.specs.History.{history, Serial}
+use Rattle.workload_file.specs.GeneratedText.{generated}
+use Rattle.workload_file.specs.WorkloadFile.{GivesVerdict, IsWorkloadFile}
+use Rattle.workload_file.specs.declared.stops.FileReason.{FileReason}
+use Rattle.workload_file.specs.declared.stops.FileReason.TheVariants as reason
+use Rattle.workload_file.specs.declared.stops.FileStop.TheVariants.{Bad}
+use Rattle.mope_top.specs.FaultText.{fault_text}
 use Rattle.mope_top.specs.FirstForm.{IsFirstForm, IsNotFirstForm}
 use Rattle.mope_top.specs.FirstRun.{workload_of}
 use Rattle.command_words.specs.Orders.{AreWords, AreNoWords}
-use Rattle.command_words.specs.declared.order.Order.TheVariants.{Replay}
+use Rattle.command_words.specs.declared.order.Order.{Order}
+use Rattle.command_words.specs.declared.order.Order.TheVariants.{Replay, Plain, Generate}
 use Rattle.mope_top.specs.declared.first_form.Statement.{Statement}
 
--- the words are right
-pub record AreRight (words : List (List ℕ)) : Type 0 where
-  pub key : Key
-  pub words_are : AreWords words (Replay key)
+-- the command reads an input
+abbrev pub Reads : Order → Type 0
+Reads (Replay key) = Unit {0}
+Reads (Plain turns) = Unit {0}
+Reads (Generate number sessions transactions) = ⊥
+
+-- the words are right, and their command reads an input
+pub record AreReading (words : List (List ℕ)) : Type 0 where
+  pub order : Order
+  pub words_are : AreWords words order
+  pub reads : Reads order
 
 -- what the report of a run prints is one history: its turns are a complete list for the workload, and its transactions, in
 -- the order in which they stand, are those that a single thread could have made
@@ -30,29 +43,44 @@ pub record IsOneHistory (w : Workload) (turns : List SessionNo) : Type 0 where
   pub complete : IsComplete w (turns_taken (run w turns))
   pub serial : Serial w (run w turns) (history (run w turns))
 
--- the text is the report of the workload that the bytes spell, with the first nonce 0, under the turns that its run takes,
--- and what it prints is one history
+-- `replay`: the text is the report of the workload that the bytes spell, with the first nonce 0, under the turns that its
+-- run takes, and what it prints is one history
 pub record Reports (bytes text : List ℕ) : Type 0 where
   pub statements : List Statement
   pub spelled : IsFirstForm bytes statements
   pub text_is : text ≡ report 0 (workload_of statements) []
   pub one_history : IsOneHistory (workload_of statements) []
 
--- the whole input was read, and the text is the report of what it spells
-pub record ReportsAll (old new : Option (List ℕ)) (text : List ℕ) : Type 0 where
+-- `plain`: the text is the plain report of the workload that the bytes spell, under the turns that its run takes, given
+-- these, and what it prints is one history
+pub record TellsPlainly (turns : List SessionNo) (bytes text : List ℕ) : Type 0 where
+  pub w : Workload
+  pub spelled : IsWorkloadFile bytes w
+  pub text_is : text ≡ plain_report w turns
+  pub one_history : IsOneHistory w turns
+
+-- the bytes spell no workload, and the text names the first line that has a fault and its first reason
+pub record NamesFault (bytes text : List ℕ) : Type 0 where
+  pub line : ℕ
+  pub why : FileReason
+  pub fault : GivesVerdict bytes (Err (Bad line why))
+  pub text_is : text ≡ fault_text line why
+
+-- the whole input was read, and this is so of its bytes
+pub record ReadsAll (old new : Option (List ℕ)) (Is : List ℕ → Type 0) : Type 0 where
   pub bytes : List ℕ
   pub all : TakesAll old new 67108864 bytes
-  pub reports : Reports bytes text
+  pub is : Is bytes
 
--- the whole input was read, and it isn't of the first form
-pub record RefusesAll (old new : Option (List ℕ)) : Type 0 where
-  pub bytes : List ℕ
-  pub all : TakesAll old new 67108864 bytes
-  pub refused : IsNotFirstForm bytes
+-- the input has a byte too many
+abbrev pub IsTooLong : Option (List ℕ) → Option (List ℕ) → Type 0
+IsTooLong old new = TakesExactly old new 67108865
 
--- the input isn't of the first form: the whole of it, or it has a byte too many
-abbrev pub Refuses : Option (List ℕ) → Option (List ℕ) → Type 0
-Refuses old new = RefusesAll old new ⊎ TakesExactly old new 67108865
+-- the text is what a command writes on an input
+abbrev pub Outputs : Order → Option (List ℕ) → Option (List ℕ) → List ℕ → Type 0
+Outputs (Replay key) old new text = ReadsAll old new (λ bytes. Reports bytes text)
+Outputs (Plain turns) old new text = ReadsAll old new (λ bytes. TellsPlainly turns bytes text)
+Outputs (Generate number sessions transactions) old new text = (new ≡ old) × (text ≡ generated number sessions transactions)
 
 -- the lines of the two refusals
 abbrev pub usage_text : List ℕ
@@ -61,11 +89,33 @@ usage_text = codes "error usage" ++ 10 ∷ []
 abbrev pub input_text : List ℕ
 input_text = codes "error line 0: not in the first form" ++ 10 ∷ []
 
+-- the text is the line by which a command refuses an input
+abbrev pub Refuses : Order → Option (List ℕ) → Option (List ℕ) → List ℕ → Type 0
+Refuses (Replay key) old new text = (ReadsAll old new IsNotFirstForm ⊎ IsTooLong old new) × (text ≡ input_text)
+Refuses (Plain turns) old new text =
+    ReadsAll old new (λ bytes. NamesFault bytes text) ⊎ (IsTooLong old new × (text ≡ fault_text 0 reason.InputTooLong))
+Refuses (Generate number sessions transactions) old new text = ⊥
+
+-- the text that a status writes under a command
+abbrev pub Does : Order → Status → Option (List ℕ) → Option (List ℕ) → List ℕ → Type 0
+Does order Done old new text = Outputs order old new text
+Does order Usage old new text = ⊥
+Does order Input old new text = Refuses order old new text
+Does order Memory old new text = ⊥
+Does order ReadFault old new text = ⊥
+Does order WriteFault old new text = ⊥
+
+-- the words are right, and the text is that of the status under their command
+pub record Obeys (status : Status) (words : List (List ℕ)) (old new : Option (List ℕ)) (text : List ℕ) : Type 0 where
+  pub order : Order
+  pub words_are : AreWords words order
+  pub does : Does order status old new text
+
 -- the text that a status writes, by the words and what was left of the input before and after
 abbrev pub HasText : Status → List (List ℕ) → Option (List ℕ) → Option (List ℕ) → List ℕ → Type 0
-HasText Done words old new text = AreRight words × ReportsAll old new text
+HasText Done words old new text = Obeys Done words old new text
 HasText Usage words old new text = AreNoWords words × (text ≡ usage_text)
-HasText Input words old new text = AreRight words × Refuses old new × (text ≡ input_text)
+HasText Input words old new text = Obeys Input words old new text
 HasText Memory words old new text = ⊥
 HasText ReadFault words old new text = ⊥
 HasText WriteFault words old new text = ⊥
@@ -76,7 +126,8 @@ pub record Writes (status : Status) (words : List (List ℕ)) (old new : Option 
   pub has : HasText status words old new text
   pub appended : Appends was is text
 
--- the headline: the words are right, and what was written is the report of the workload that the whole input spells
+-- the headline: the words are right, and what was written is the report of the workload that the whole input spells, or for
+-- `generate` the text that it draws
 abbrev pub Headline : List (List ℕ) → (old new was is : Option (List ℕ)) → Type 0
 Headline words old new was is = Writes Done words old new was is
 
@@ -94,7 +145,7 @@ Ends Done words old new reads read was is writes written = Writes Done words old
 Ends Usage words old new reads read was is writes written = Writes Usage words old new was is
 Ends Input words old new reads read was is writes written = Writes Input words old new was is
 Ends Memory words old new reads read was is writes written = Keeps was is
-Ends ReadFault words old new reads read was is writes written = AreRight words × Rose reads read × Keeps was is
+Ends ReadFault words old new reads read was is writes written = AreReading words × Rose reads read × Keeps was is
 Ends WriteFault words old new reads read was is writes written = WritesFront words old new was is × Rose writes written
 
 -- with wrong words the input isn't touched
@@ -102,6 +153,11 @@ pub record LeavesInput (status : Status) (old new : Option (List ℕ)) (reads re
   pub left : new ≡ old
   pub faults : read ≡ reads
   pub status_is : (status ≡ Usage) ⊎ ((status ≡ WriteFault) ⊎ (status ≡ Memory))
+
+-- `generate` touches no input
+pub record IsUnread (old new : Option (List ℕ)) (reads read : ℕ) : Type 0 where
+  pub left : new ≡ old
+  pub faults : read ≡ reads
 
 -- a status that wrote this text, or want of memory
 abbrev pub WritesOrMemory : Status → Status → Option (List ℕ) → Option (List ℕ) → List ℕ → Type 0
@@ -113,8 +169,23 @@ StopsEarly Done words reads read = ⊥
 StopsEarly Usage words reads read = ⊥
 StopsEarly Input words reads read = ⊥
 StopsEarly Memory words reads read = Unit {0}
-StopsEarly ReadFault words reads read = AreRight words × Rose reads read
+StopsEarly ReadFault words reads read = AreReading words × Rose reads read
 StopsEarly WriteFault words reads read = ⊥
+
+-- why a command stops before it has a text to write
+abbrev pub Stops : Order → Status → ℕ → ℕ → Type 0
+Stops order Done reads read = ⊥
+Stops order Usage reads read = ⊥
+Stops order Input reads read = ⊥
+Stops order Memory reads read = Unit {0}
+Stops order ReadFault reads read = Reads order × Rose reads read
+Stops order WriteFault reads read = ⊥
+
+-- the numbers of `generate` are within their limits
+abbrev pub HasSizes : Order → Type 0
+HasSizes (Replay key) = Unit {0}
+HasSizes (Plain turns) = Unit {0}
+HasSizes (Generate number sessions transactions) = (0 < sessions) × (sessions ≤ 64) × (0 < transactions) × (transactions ≤ 1000)
 
 -- what is to be written after a whole input was read: its report, or that it isn't of the first form
 abbrev pub IsJudged : List ℕ → Status → List ℕ → Type 0
@@ -124,3 +195,12 @@ IsJudged bytes Input text = IsNotFirstForm bytes × (text ≡ input_text)
 IsJudged bytes Memory text = ⊥
 IsJudged bytes ReadFault text = ⊥
 IsJudged bytes WriteFault text = ⊥
+
+-- the same for `plain`: its plain report, or the line of its first fault
+abbrev pub IsPlainlyJudged : List SessionNo → List ℕ → Status → List ℕ → Type 0
+IsPlainlyJudged turns bytes Done text = TellsPlainly turns bytes text
+IsPlainlyJudged turns bytes Usage text = ⊥
+IsPlainlyJudged turns bytes Input text = NamesFault bytes text
+IsPlainlyJudged turns bytes Memory text = ⊥
+IsPlainlyJudged turns bytes ReadFault text = ⊥
+IsPlainlyJudged turns bytes WriteFault text = ⊥

@@ -1,5 +1,6 @@
 pub mod FirstForm
 pub mod FirstRun
+pub mod FaultText
 pub mod Batch
 pub mod FirstReport
 pub mod SealedItems

@@ -1,9 +1,9 @@
 //! Numbers in decimal digits.
-ghost use Rattle.std.specs.Prelude.{◌≡◌, ◌≢◌, ◌≤◌, ◌<◌, ◌^◌, ◌++◌, ℕ, List, ◌⊎◌, length, slice_index, MatchOption, MatchBool};
+ghost use Rattle.std.specs.Prelude.{◌≡◌, ◌≢◌, ◌≤◌, ◌<◌, ◌^◌, ◌++◌, ℕ, List, length, slice_index, MatchOption};
 ghost use Rattle.std.specs.Char.{IsAsciiDigit};
 ghost use Rattle.std.specs.Fmt.{decimal};
 
-use std::str;
+use command_words::plain_number;
 
 /// A number in plain decimal and then the text `after`, at the head of `bytes`: the number and the bytes past `after`.
 /// None where the bytes begin with no such number and text.
@@ -34,27 +34,4 @@ fn digits_end(bytes: &[u8]) -> usize
         }
     }
     bytes.len()
-}
-
-/// The number that the whole text is in plain decimal: digits without leading zeros, at most 2^64 - 1.
-fn plain_number(text: &[u8]) -> Option<u64>
-    ensures { MatchOption result ((n : ℕ) → n < 2 ^ 64 → text.now ≢ decimal n) (λ n. (n < 2 ^ 64) × (text.now ≡ decimal n)) }
-{
-    if has_sign_or_leading_zero(text) {
-        return None;
-    }
-    let Ok(digits) = str::from_utf8(text) else {
-        return None;
-    };
-    digits.parse::<u64>().ok()
-}
-
-/// Whether the text begins with a plus sign, which is 43, or with a zero, which is 48, before further bytes.
-fn has_sign_or_leading_zero(text: &[u8]) -> bool
-    ensures { MatchBool result ((slice_index text.now 0 ≡ 43) ⊎ ((slice_index text.now 0 ≡ 48) × (1 < length text.now))) ((slice_index text.now 0 ≢ 43) × (slice_index text.now 0 ≡ 48 → length text.now ≤ 1)) }
-{
-    match text {
-        [b'+', ..] | [b'0', _, ..] => true,
-        _ => false,
-    }
 }

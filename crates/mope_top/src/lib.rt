@@ -8,6 +8,8 @@ mod first_form;
 mod first_report;
 mod item_walk;
 pub mod laws;
+mod plain;
+mod refusals;
 mod replay;
 mod sealed_items;
 mod statement_reader;

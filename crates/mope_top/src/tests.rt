@@ -6,6 +6,9 @@ use mope_base::{Items, MemorySink, MemorySource, OutOfMemory, Status};
 use std::alloc::Global;
 use std::test::Fail;
 
+mod plain_command;
+mod word_lists;
+
 const DIGITS: &str = "0000000000000000000000000000000000000000000000000000000000000000";
 
 const DIGITS_63: &str = "000000000000000000000000000000000000000000000000000000000000000";

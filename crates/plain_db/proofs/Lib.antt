@@ -24,8 +24,10 @@ pub mod FrontLemmas
 pub mod AnswerLemmas
 pub mod TableLemmas
 pub mod NumberLemmas
+pub mod TakingBackLemmas
 pub mod TryLemmas
 pub mod CommittingLemmas
+pub mod EffectLemmas
 pub mod TurningLemmas
 pub mod ShowingLemmas
 pub mod FitLemmas

@@ -57,3 +57,25 @@ pub found_all : (rows : List PlainRow) (p : PlainRow → Bool) (found : List ℕ
     → rows_at rows found ++ filter p (drop i rows) ≡ filter p rows → rows_at rows found ≡ filter p rows
 found_all rows p found i past whole =
     sym (append-nil (rows_at rows found)) ∙ ap (λ l. rows_at rows found ++ l) (sym (at_drop_all (λ l. filter p l) rows i past)) ∙ whole
+
+-- copies of the rows that pass, with one more where it passes
+pub copied_more : (rows : List PlainRow) (p : PlainRow → Bool) (copies next : List PlainRow) (i : ℕ) (row : PlainRow) (b : Bool) → i < length rows
+    → copies ++ filter p (drop i rows) ≡ filter p rows → row ≡ get_or rows i row
+    → b ≡ p row → next ≡ copies ++ (if b then row ∷ [] else [])
+    → next ++ filter p (drop (i + 1) rows) ≡ filter p rows
+copied_more rows p copies next i row b within whole here passed pushed =
+    ap (λ l. l ++ filter p (drop (i + 1) rows)) pushed
+    ∙ append_assoc copies (if b then row ∷ [] else []) (filter p (drop (i + 1) rows))
+    ∙ ap (λ l. copies ++ l) (front b passed ∙ ap (λ r. cond (p r) (r ∷ filter p (drop (i + 1) rows)) (filter p (drop (i + 1) rows))) here
+    ∙ sym (at_drop_more (λ l. filter p l) rows i row within))
+    ∙ whole
+  where
+    front : (b : Bool) → b ≡ p row
+        → (if b then row ∷ [] else []) ++ filter p (drop (i + 1) rows) ≡ cond (p row) (row ∷ filter p (drop (i + 1) rows)) (filter p (drop (i + 1) rows))
+    front true e = ap (λ c. cond c (row ∷ filter p (drop (i + 1) rows)) (filter p (drop (i + 1) rows))) e
+    front false e = ap (λ c. cond c (row ∷ filter p (drop (i + 1) rows)) (filter p (drop (i + 1) rows))) e
+
+pub copied_all : (rows : List PlainRow) (p : PlainRow → Bool) (copies : List PlainRow) (i : ℕ) → length rows ≤ i
+    → copies ++ filter p (drop i rows) ≡ filter p rows → copies ≡ filter p rows
+copied_all rows p copies i past whole =
+    sym (append-nil copies) ∙ ap (λ l. copies ++ l) (sym (at_drop_all (λ l. filter p l) rows i past)) ∙ whole

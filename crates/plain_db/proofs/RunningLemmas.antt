@@ -21,6 +21,7 @@ use Rattle.plain_db.specs.Turned.{TurnedBy}
 use Rattle.plain_db.specs.Reached.{IsReached, by_turn, by_settling}
 use Rattle.plain_db.proofs.OverLemmas.{IsReady, settled-own, turn-own}
 use Rattle.plain_db.proofs.ShowingLemmas.{position-here, no_place, shows-turned, shows-settled}
+use Rattle.plain_db.proofs.FitLemmas.{reached_holds}
 use Rattle.plain_db.proofs.StateLemmas.{place-count}
 
 -- a session that doesn't exist takes no turn
@@ -171,17 +172,17 @@ on_ok_places : {T E : Type 0} (r : Result T E) (Q : Place → Type 0) → ((d : 
 on_ok_places (Ok x) Q h = λ d. h d
 on_ok_places (Err e) Q h = tt
 
-pub on_ok_turned : {T E : Type 0} (result : Result T E) (w : Workload) (state new : State) (r : Run) (s : SessionNo) (k : ℕ) → ShowsRun w state r → s.0 ≡ suc k → k < length state.places
+pub on_ok_turned : {T E : Type 0} (result : Result T E) (w : Workload) (state new : State) (r : Run) (s : SessionNo) (k : ℕ) → ShowsRun w state r → IsReached w r → s.0 ≡ suc k → k < length state.places
     → ((d : Place) → OnOk result (TurnedBy (get_or w.sessions k []) (get_or state.places k d).standing state new s k (get_or state.places k d).ended))
     → OnOk result (ShowsRun w new (take_turn r s))
-on_ok_turned result w state new r s k h session here by =
-    on_ok_weaker result (λ turned. shows-turned w state new r s k h session here turned) (on_ok_places result _ by)
+on_ok_turned result w state new r s k h reached session here by =
+    on_ok_weaker result (λ turned. shows-turned w state new r s k h (reached_holds w r reached) session here turned) (on_ok_places result _ by)
 
-pub on_ok_settled : {T E : Type 0} (result : Result T E) (w : Workload) (state new : State) (r : Run) (s : SessionNo) (k : ℕ) → ShowsRun w state r → s.0 ≡ suc k → k < length state.places
-    → ((d : Place) → OnOk result (SettledBy (get_or state.places k d).standing state new s k (get_or state.places k d).ended))
+pub on_ok_settled : {T E : Type 0} (result : Result T E) (w : Workload) (state new : State) (r : Run) (s : SessionNo) (k : ℕ) → ShowsRun w state r → IsReached w r → s.0 ≡ suc k → k < length state.places
+    → ((d : Place) → OnOk result (SettledBy (get_or w.sessions k []) (get_or state.places k d).standing state new s k (get_or state.places k d).ended))
     → OnOk result (ShowsRun w new (settled r s))
-on_ok_settled result w state new r s k h session here by =
-    on_ok_weaker result (λ settled. shows-settled w state new r s k h session here settled) (on_ok_places result _ by)
+on_ok_settled result w state new r s k h reached session here by =
+    on_ok_weaker result (λ settled. shows-settled w state new r s k h (reached_holds w r reached) session here settled) (on_ok_places result _ by)
 
 -- after what the session owed is settled, the pieces are left that the program hasn't ended
 pub finish-begin : (w : Workload) (state : State) (r : Run) (s : SessionNo) (k first : ℕ) → ShowsRun w state (settled r s) → IsReached w r

@@ -13,6 +13,7 @@ use Rattle.workload.specs.declared.script.End.TheVariants as end
 use Rattle.workload.specs.declared.script.Piece.{Piece}
 use Rattle.workload.specs.declared.script.Piece.TheVariants as piece
 use Rattle.workload.specs.declared.script.Workload.{Workload}
+use Rattle.workload.specs.History.{effect_on}
 use Rattle.workload.specs.Transaction.{Work, table_named, trial_of, work_of, Wish, ends, commits, wish_of}
 use Rattle.workload.specs.Run.{Run, Turn, TurnKind, began, committed, conflicted, installed, found_stale, Position, ready, committing, installing, Stamps, unstamped, number_of, position_at, with_position, moved, with_done, begun, begin_turn, stamps_of, lowest_newer, merged, stamped, committed_unless, commit_turn, last_change, installed_unless, install_turn, turn_from, take_turn, settled_from, settled}
 use Rattle.plain_db.specs.declared.trying.Tried.{Tried}
@@ -21,9 +22,11 @@ use Rattle.plain_db.specs.declared.state.Standing.{Standing}
 use Rattle.plain_db.specs.declared.state.Standing.TheVariants as standing
 use Rattle.plain_db.specs.declared.state.State.{State}
 use Rattle.plain_db.specs.Trying.{ShowsWork}
-use Rattle.plain_db.specs.Running.{newer_in, written_by, IsCommitting, IsInstalling, ShowsStanding, ShowsPlaces, ShowsRun, moved_state, ended_state, BegunBy, committed_state, changed_in, installed_state, SettledBy, BeganBy}
+use Rattle.plain_db.specs.Running.{newer_in, written_by, IsCommitting, IsInstalling, ShowsStanding, ShowsPlaces, ShowsRun, moved_state, ended_state, BegunBy, committed_state, changed_in, installed_state, piece_after, SettledBy, BeganBy}
 use Rattle.plain_db.specs.Turned.{TurnedBy}
 use Rattle.plain_db.proofs.CommittingLemmas.{newer-stamps, written-stamps}
+use Rattle.plain_db.proofs.EffectLemmas.{commit-effect}
+use Rattle.plain_db.proofs.RunInvariant.{RunHolds}
 
 places-set : (w : Workload) (places : List Place) (positions : List Position) (k : ℕ) (place : Place) (q : Position) → ShowsPlaces w places positions
     → k < length places → ShowsStanding (get_or w.sessions k []) place.ended place.standing q
@@ -115,22 +118,23 @@ written-kept stamps i number =
 
 -- a commit
 
-shows-committed : (w : Workload) (state : State) (r : Run) (s : SessionNo) (k ended base : ℕ) (tried : Tried) (work : Work) (found : Option (TableNo × ℕ)) → ShowsRun w state r
+shows-committed : (w : Workload) (state : State) (r : Run) (s : SessionNo) (k ended base : ℕ) (tried : Tried) (work : Work) (present : Piece) (found : Option (TableNo × ℕ)) → ShowsRun w state r
     → s.0 ≡ suc k → k < length state.places → ShowsWork tried work
-    → ShowsRun w (committed_state found state s k ended base tried work.ops)
+    → (found ≡ None → effect_on present r.current ≡ merged work.ops work.copy r.current)
+    → ShowsRun w (committed_state found state s k ended base tried present)
     (committed_unless found r s (suc ended) base work (drop (suc ended) (get_or w.sessions k [])))
 unfolding committed_state committed_unless ended_state moved_state with_done moved number_of
-shows-committed w state r s k ended base tried work (Some newer) h session here shows =
+shows-committed w state r s k ended base tried work present (Some newer) h session here shows effect =
     subst (λ answers. ShowsRun w (ended_state state s k ended base (end.Conflict newer.0 newer.1) answers) (committed_unless (Some newer) r s (suc ended) base work (drop (suc ended) (get_or w.sessions k []))))
     (sym shows.answers)
     (shows-ended w state r s k ended base (conflicted newer.0 newer.1) (end.Conflict newer.0 newer.1) work.answers h session here)
-shows-committed w state r s k ended base tried work None h session here shows =
+shows-committed w state r s k ended base tried work present None h session here shows effect =
     let step : ShowsRun w (ended_state state s k ended base end.Read [])
     (with_done (moved r s (suc ended) (committed (suc (number_of r)) work.ops) (ready (suc (suc ended)) (drop (suc ended) (get_or w.sessions k [])))) s (suc ended) base end.Read []) =
     shows-ended w state r s k ended base (committed (suc (number_of r)) work.ops) end.Read [] h session here in
     record {
       version = omega (arith, h.version, length_push r.older r.current);
-      current = ap (λ db. merged work.ops db state.current) shows.copy ∙ ap (λ db. merged work.ops work.copy db) h.current;
+      current = ap (λ db. effect_on present db) h.current ∙ effect refl;
       written =
           ap (λ l. written_by l (suc state.version) state.written) shows.ops
           ∙ ap (λ v. written_by (map table_named work.ops) (suc v) state.written) h.version
@@ -153,14 +157,16 @@ newer-same state r w base tried work h shows =
     ∙ newer-stamps 0 r.stamps base work.touched
 
 pub shows-commit : (w : Workload) (state new : State) (r : Run) (s : SessionNo) (k ended base : ℕ) (tried : Tried) (work : Work) → ShowsRun w state r
-    → s.0 ≡ suc k → k < length state.places → ShowsWork tried work
-    → SettledBy (standing.Committing base tried) state new s k ended
+    → RunHolds w r → s.0 ≡ suc k → k < length state.places → ShowsWork tried work
+    → position_at r.positions s.0 ≡ committing (suc ended) base work (drop (suc ended) (get_or w.sessions k []))
+    → SettledBy (get_or w.sessions k []) (standing.Committing base tried) state new s k ended
     → ShowsRun w new (commit_turn r s (suc ended) base work (drop (suc ended) (get_or w.sessions k [])))
 unfolding commit_turn SettledBy
-shows-commit w state new r s k ended base tried work h session here shows settled =
+shows-commit w state new r s k ended base tried work h holds session here shows stands settled =
     subst (λ n. ShowsRun w n (committed_unless (lowest_newer 0 r.stamps base work.touched) r s (suc ended) base work (drop (suc ended) (get_or w.sessions k []))))
-    (sym (settled work.ops shows.ops ∙ ap (λ o. committed_state o state s k ended base tried work.ops) (newer-same state r w base tried work h shows)))
-    (shows-committed w state r s k ended base tried work (lowest_newer 0 r.stamps base work.touched) h session here shows)
+    (sym (settled ∙ ap (λ o. committed_state o state s k ended base tried (piece_after (get_or w.sessions k []) ended)) (newer-same state r w base tried work h shows)))
+    (shows-committed w state r s k ended base tried work (piece_after (get_or w.sessions k []) ended) (lowest_newer 0 r.stamps base work.touched) h session here shows
+    (λ unfound. commit-effect w r s k ended base work (drop (suc ended) (get_or w.sessions k [])) session stands holds unfound))
 
 -- an install
 
@@ -202,7 +208,7 @@ shows-installed w state r s k ended base t column false h session here =
     }
 
 pub shows-install : (w : Workload) (state new : State) (r : Run) (s : SessionNo) (k ended base : ℕ) (t : TableNo) (column : ColNo) → ShowsRun w state r
-    → s.0 ≡ suc k → k < length state.places → SettledBy (standing.Installing base t) state new s k ended
+    → s.0 ≡ suc k → k < length state.places → SettledBy (get_or w.sessions k []) (standing.Installing base t) state new s k ended
     → ShowsRun w new (install_turn r s (suc ended) base t column (drop (suc ended) (get_or w.sessions k [])))
 unfolding install_turn SettledBy
 shows-install w state new r s k ended base t column h session here settled =
@@ -269,42 +275,42 @@ position-here w state r s k d h session here =
     (sym session) (h.places.each k d here)
 
 turned-standing : (w : Workload) (state new : State) (r : Run) (s : SessionNo) (k ended : ℕ) (stands : Standing) (p : Position) → ShowsRun w state r
-    → s.0 ≡ suc k → k < length state.places → ShowsStanding (get_or w.sessions k []) ended stands p
+    → RunHolds w r → position_at r.positions s.0 ≡ p → s.0 ≡ suc k → k < length state.places → ShowsStanding (get_or w.sessions k []) ended stands p
     → TurnedBy (get_or w.sessions k []) stands state new s k ended → ShowsRun w new (turn_from p r s)
 unfolding ShowsStanding TurnedBy turn_from
-turned-standing w state new r s k ended standing.Ready p h session here is by =
+turned-standing w state new r s k ended standing.Ready p h holds at session here is by =
     subst (λ q. ShowsRun w new (turn_from q r s)) (sym is) (shows-began w state new r s k ended (drop ended (get_or w.sessions k [])) h session here refl by)
-turned-standing w state new r s k ended (standing.Committing base tried) p h session here is by =
-    subst (λ q. ShowsRun w new (turn_from q r s)) (sym is.stands) (shows-commit w state new r s k ended base tried is.work h session here is.shows by)
-turned-standing w state new r s k ended (standing.Installing base t) p h session here is by =
+turned-standing w state new r s k ended (standing.Committing base tried) p h holds at session here is by =
+    subst (λ q. ShowsRun w new (turn_from q r s)) (sym is.stands) (shows-commit w state new r s k ended base tried is.work h holds session here is.shows (at ∙ is.stands) by)
+turned-standing w state new r s k ended (standing.Installing base t) p h holds at session here is by =
     subst (λ q. ShowsRun w new (turn_from q r s)) (sym is.stands) (shows-install w state new r s k ended base t is.column h session here by)
 
 settled-standing : (w : Workload) (state new : State) (r : Run) (s : SessionNo) (k ended : ℕ) (stands : Standing) (p : Position) → ShowsRun w state r
-    → s.0 ≡ suc k → k < length state.places → ShowsStanding (get_or w.sessions k []) ended stands p
-    → SettledBy stands state new s k ended → ShowsRun w new (settled_from p r s)
+    → RunHolds w r → position_at r.positions s.0 ≡ p → s.0 ≡ suc k → k < length state.places → ShowsStanding (get_or w.sessions k []) ended stands p
+    → SettledBy (get_or w.sessions k []) stands state new s k ended → ShowsRun w new (settled_from p r s)
 unfolding ShowsStanding SettledBy settled_from
-settled-standing w state new r s k ended standing.Ready p h session here is by =
+settled-standing w state new r s k ended standing.Ready p h holds at session here is by =
     subst (λ q. ShowsRun w new (settled_from q r s)) (sym is) (subst (λ n. ShowsRun w n r) (sym by) h)
-settled-standing w state new r s k ended (standing.Committing base tried) p h session here is by =
-    subst (λ q. ShowsRun w new (settled_from q r s)) (sym is.stands) (shows-commit w state new r s k ended base tried is.work h session here is.shows by)
-settled-standing w state new r s k ended (standing.Installing base t) p h session here is by =
+settled-standing w state new r s k ended (standing.Committing base tried) p h holds at session here is by =
+    subst (λ q. ShowsRun w new (settled_from q r s)) (sym is.stands) (shows-commit w state new r s k ended base tried is.work h holds session here is.shows (at ∙ is.stands) by)
+settled-standing w state new r s k ended (standing.Installing base t) p h holds at session here is by =
     subst (λ q. ShowsRun w new (settled_from q r s)) (sym is.stands) (shows-install w state new r s k ended base t is.column h session here by)
 
 unfoldable pub no_place : Place
 no_place = record { ended = 0; standing = standing.Ready }
 
-pub shows-turned : (w : Workload) (state new : State) (r : Run) (s : SessionNo) (k : ℕ) → ShowsRun w state r → s.0 ≡ suc k → k < length state.places
+pub shows-turned : (w : Workload) (state new : State) (r : Run) (s : SessionNo) (k : ℕ) → ShowsRun w state r → RunHolds w r → s.0 ≡ suc k → k < length state.places
     → ((d : Place) → TurnedBy (get_or w.sessions k []) (get_or state.places k d).standing state new s k (get_or state.places k d).ended)
     → ShowsRun w new (take_turn r s)
 unfolding take_turn
-shows-turned w state new r s k h session here by =
-    turned-standing w state new r s k (get_or state.places k no_place).ended (get_or state.places k no_place).standing (position_at r.positions s.0) h session here
+shows-turned w state new r s k h holds session here by =
+    turned-standing w state new r s k (get_or state.places k no_place).ended (get_or state.places k no_place).standing (position_at r.positions s.0) h holds refl session here
     (position-here w state r s k no_place h session here) (by no_place)
 
-pub shows-settled : (w : Workload) (state new : State) (r : Run) (s : SessionNo) (k : ℕ) → ShowsRun w state r → s.0 ≡ suc k → k < length state.places
-    → ((d : Place) → SettledBy (get_or state.places k d).standing state new s k (get_or state.places k d).ended)
+pub shows-settled : (w : Workload) (state new : State) (r : Run) (s : SessionNo) (k : ℕ) → ShowsRun w state r → RunHolds w r → s.0 ≡ suc k → k < length state.places
+    → ((d : Place) → SettledBy (get_or w.sessions k []) (get_or state.places k d).standing state new s k (get_or state.places k d).ended)
     → ShowsRun w new (settled r s)
 unfolding settled
-shows-settled w state new r s k h session here by =
-    settled-standing w state new r s k (get_or state.places k no_place).ended (get_or state.places k no_place).standing (position_at r.positions s.0) h session here
+shows-settled w state new r s k h holds session here by =
+    settled-standing w state new r s k (get_or state.places k no_place).ended (get_or state.places k no_place).standing (position_at r.positions s.0) h holds refl session here
     (position-here w state r s k no_place h session here) (by no_place)

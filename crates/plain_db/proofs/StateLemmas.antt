@@ -84,11 +84,7 @@ standing-holds w r k ended (standing.Committing base tried) p valid reached sess
     let here : SessionHolds w r (suc k) (committing (suc ended) base is.work (drop (suc ended) (get_or w.sessions k []))) =
     subst (λ q. SessionHolds w r (suc k) q) is.stands session in
     let doing : IsTried r base is.work (drop (suc ended) (get_or w.sessions k [])) here.pieces = here.doing in
-    let copy : length is.work.copy.tables ≡ size (version_of r base) = (copy-numbered w r (suc k) (suc ended) base is.work _ here (reached_fits w r reached)).1 in
-    let store : StoreHolds w r = (reached_holds w r reached).store in (
-      ap (λ (db : PlainDb). length db.tables) is.shows.copy ∙ copy ∙ store.sizes base ∙ table-count w r store,
-      omega (arith, unended w r k ended _ (piece.Txn doing.statements doing.rollback) _ here doing.is refl, (script-valid w k valid).few_pieces),
-    )
+    omega (arith, unended w r k ended _ (piece.Txn doing.statements doing.rollback) _ here doing.is refl, (script-valid w k valid).few_pieces)
 standing-holds w r k ended (standing.Installing base t) p valid reached session is =
     let here : SessionHolds w r (suc k) (installing (suc ended) base t is.column (drop (suc ended) (get_or w.sessions k []))) =
     subst (λ q. SessionHolds w r (suc k) q) is.stands session in

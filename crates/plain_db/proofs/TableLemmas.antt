@@ -1,7 +1,7 @@
 -- One table of a database exchanged, and rows taken out of a table whose rows are numbered in order.
-use Rattle.std.proofs.Common.{◌≡◌, refl, sym, ◌∙◌, ap, ℕ, suc, ◌^◌, ◌<◌, Bool, true, false, not, leb, cond, List, [], ◌∷◌, map, filter, length, arith}
+use Rattle.std.proofs.Common.{◌≡◌, refl, sym, ◌∙◌, ap, ℕ, suc, ◌^◌, ◌<◌, ◌≤◌, Bool, true, false, not, leb, cond, List, [], ◌∷◌, map, filter, length, arith}
 use Rattle.std.proofs.lemmas.Bool.{or_parts, leb-false, eq-eqb, ne_eqb}
-use Rattle.std.proofs.lemmas.List.{set-set, length-set}
+use Rattle.std.proofs.lemmas.List.{set-set, set_past, length-set}
 use Rattle.mope_base.specs.declared.numbers.TableNo.{TableNo}
 use Rattle.workload.specs.declared.plain.PlainRow.{PlainRow}
 use Rattle.workload.specs.declared.plain.PlainTable.{PlainTable}
@@ -20,6 +20,10 @@ with_table-twice db t first second =
 pub with_table-back : (db : PlainDb) (t : TableNo) (first : PlainTable) → with_table (with_table db t first) t (table_of db t) ≡ db
 with_table-back db t first = with_table-twice db t first (table_of db t) ∙ with_table-same db t
 
+pub with_table-past : (db : PlainDb) (t : TableNo) (table : PlainTable) → length db.tables ≤ t.0 → with_table db t table ≡ db
+unfolding with_table
+with_table-past db t table past = ap (λ tables. let d : PlainDb = record { tables = tables } in d) (set_past db.tables t.0 table past)
+
 pub length-with_table : (db : PlainDb) (t : TableNo) (table : PlainTable) → length (with_table db t table).tables ≡ length db.tables
 unfolding with_table
 length-with_table db t table = length-set db.tables t.0 table
@@ -30,7 +34,7 @@ room-next table e = leb-false (2 ^ 63) table.next (or_parts (leb 65536 (length t
 
 -- rows whose numbers are above one
 
-increase-above : (first next n : ℕ) (rows : List PlainRow) → n < first → IncreaseBelow first next rows → Each (λ (row : PlainRow). n < row.number) rows
+pub increase-above : (first next n : ℕ) (rows : List PlainRow) → n < first → IncreaseBelow first next rows → Each (λ (row : PlainRow). n < row.number) rows
 unfolding IncreaseBelow Each
 increase-above first next n [] below h = tt
 increase-above first next n (row ∷ rows) below h =
@@ -58,7 +62,7 @@ without_rows-kept (n ∷ numbers) row rows h =
     ap (λ b. without_rows row_number numbers (kept_unless b row (without_row row_number n rows))) (ne_eqb row.number n (λ e. omega (arith, e, h.0)))
     ∙ without_rows-kept numbers row (without_row row_number n rows) h.1
 
-filter-each : (P : PlainRow → Type 0) (p : PlainRow → Bool) (rows : List PlainRow) → Each P rows → Each P (filter p rows)
+pub filter-each : (P : PlainRow → Type 0) (p : PlainRow → Bool) (rows : List PlainRow) → Each P rows → Each P (filter p rows)
 unfolding Each
 filter-each P p [] h = tt
 filter-each P p (row ∷ rows) h =

@@ -12,7 +12,7 @@ use Rattle.workload.specs.declared.script.End.TheVariants as end
 use Rattle.workload.specs.declared.script.Piece.{Piece}
 use Rattle.mope_base.specs.Lists.{Each}
 use Rattle.workload.specs.Transaction.{Work, Trial, table_named, work_of, Wish, ends, commits, wish_of, wish_after}
-use Rattle.workload.specs.Run.{merged}
+use Rattle.workload.specs.History.{effect_on}
 use Rattle.plain_db.specs.declared.trying.Tried.{Tried}
 use Rattle.plain_db.specs.declared.state.Place.{Place}
 use Rattle.plain_db.specs.declared.state.Standing.{Standing}
@@ -72,17 +72,17 @@ unfolding BegunBy
 begun-commits state new s k ended tried work wish is shows moved =
     subst (λ w. BegunBy w state new s k ended work) is (tried, shows, moved)
 
-pub committed-by : (state new : State) (s : SessionNo) (k ended n base : ℕ) (current : PlainDb) (written : List ℕ) (work : Tried) (acts : List Act) → n ≡ suc state.version
-    → current ≡ merged acts work.copy state.current → written ≡ written_by work.ops n state.written
+pub committed-by : (state new : State) (s : SessionNo) (k ended n base : ℕ) (current : PlainDb) (written : List ℕ) (work : Tried) (present : Piece) → n ≡ suc state.version
+    → current ≡ effect_on present state.current → written ≡ written_by work.ops n state.written
     → (let mid : State = record state { version = n; current = current; written = written } in new ≡ ended_state mid s k ended base (end.Committed n) work.answers)
-    → new ≡ committed_state None state s k ended base work acts
+    → new ≡ committed_state None state s k ended base work present
 unfolding committed_state ended_state moved_state
-committed-by state new s k ended n base current written work acts count merges writes ended_by =
+committed-by state new s k ended n base current written work present count redone writes ended_by =
     ended_by
-    ∙ ap (λ db. let mid : State = record state { version = n; current = db; written = written } in ended_state mid s k ended base (end.Committed n) work.answers) merges
-    ∙ ap (λ l. let mid : State = record state { version = n; current = merged acts work.copy state.current; written = l } in ended_state mid s k ended base (end.Committed n) work.answers) writes
+    ∙ ap (λ db. let mid : State = record state { version = n; current = db; written = written } in ended_state mid s k ended base (end.Committed n) work.answers) redone
+    ∙ ap (λ l. let mid : State = record state { version = n; current = effect_on present state.current; written = l } in ended_state mid s k ended base (end.Committed n) work.answers) writes
     ∙ ap (λ c.
-    let mid : State = record state { version = c; current = merged acts work.copy state.current; written = written_by work.ops c state.written } in
+    let mid : State = record state { version = c; current = effect_on present state.current; written = written_by work.ops c state.written } in
     ended_state mid s k ended base (end.Committed c) work.answers) count
 
 pub changed-left : (written laid : ℕ) → laid < written → written ≡ max written laid
@@ -102,13 +102,6 @@ installed-by state new s k ended n base laid t answers count lays none ended_by 
     ∙ ap (λ l. let mid : State = record state { version = n; laid = l } in ended_state mid s k ended base (end.Installed n) []) lays
     ∙ ap (λ c. let mid : State = record state { version = c; laid = set state.laid t.0 c } in ended_state mid s k ended base (end.Installed c) []) count
 
--- a claim for each list of statements
-
-pub on_ok_acts : {T E : Type 0} (r : Result T E) (P Q : List Act → Type 0) → ((acts : List Act) → P acts → OnOk r (Q acts))
-    → OnOk r ((acts : List Act) → P acts → Q acts)
-on_ok_acts (Ok x) P Q h = λ acts p. h acts p
-on_ok_acts (Err e) P Q h = tt
-
 -- the state may have any place where the turn puts one
 
 pub ended-places : (state : State) (places : List Place) (x : Place) (s : SessionNo) (k ended base : ℕ) (e : End) (answers : List Answer)
@@ -124,15 +117,15 @@ ended-places state places x s k ended base e answers put =
     } in
     next) (ap (λ l. set l k (record { ended = suc ended; standing = standing.Ready })) put ∙ set-set state.places k x (record { ended = suc ended; standing = standing.Ready }))
 
-pub committed-places : (o : Option (TableNo × ℕ)) (state : State) (places : List Place) (x : Place) (s : SessionNo) (k ended base : ℕ) (work : Tried) (acts : List Act)
+pub committed-places : (o : Option (TableNo × ℕ)) (state : State) (places : List Place) (x : Place) (s : SessionNo) (k ended base : ℕ) (work : Tried) (present : Piece)
     → places ≡ set state.places k x
-    → (let other : State = record state { places = places } in committed_state o other s k ended base work acts) ≡ committed_state o state s k ended base work acts
+    → (let other : State = record state { places = places } in committed_state o other s k ended base work present) ≡ committed_state o state s k ended base work present
 unfolding committed_state ended_state moved_state
-committed-places (Some newer) state places x s k ended base work acts put =
+committed-places (Some newer) state places x s k ended base work present put =
     ended-places state places x s k ended base (end.Conflict newer.0 newer.1) work.answers put
-committed-places None state places x s k ended base work acts put =
+committed-places None state places x s k ended base work present put =
     ap (λ (m : State).
-    let next : State = record m { version = suc state.version; current = merged acts work.copy state.current; written = written_by work.ops (suc state.version) state.written } in
+    let next : State = record m { version = suc state.version; current = effect_on present state.current; written = written_by work.ops (suc state.version) state.written } in
     next) (ended-places state places x s k ended base (end.Committed (suc state.version)) work.answers put)
 
 pub installed-places : (stale : Bool) (state : State) (places : List Place) (x : Place) (s : SessionNo) (k ended base : ℕ) (t : TableNo)
@@ -156,11 +149,11 @@ pub standing-fits : (tables : ℕ) (state : State) (k : ℕ) (place : Place) →
 standing-fits tables state k place fits here given =
     subst (λ (p : Place). StandingFits tables p.ended p.standing) (sym given) (fits.standings k place here)
 
-pub settled-at : (state new : State) (s : SessionNo) (k : ℕ) (place : Place) → k < length state.places → place ≡ get_or state.places k place
-    → SettledBy place.standing state new s k place.ended
-    → (d : Place) → SettledBy (get_or state.places k d).standing state new s k (get_or state.places k d).ended
-settled-at state new s k place here given settled d =
-    subst (λ (p : Place). SettledBy p.standing state new s k p.ended) (get_or_read state.places k place here given d) settled
+pub settled-at : (script : List Piece) (state new : State) (s : SessionNo) (k : ℕ) (place : Place) → k < length state.places → place ≡ get_or state.places k place
+    → SettledBy script place.standing state new s k place.ended
+    → (d : Place) → SettledBy script (get_or state.places k d).standing state new s k (get_or state.places k d).ended
+settled-at script state new s k place here given settled d =
+    subst (λ (p : Place). SettledBy script p.standing state new s k p.ended) (get_or_read state.places k place here given d) settled
 
 pub turned-at : (script : List Piece) (state new : State) (s : SessionNo) (k : ℕ) (place : Place) → k < length state.places → place ≡ get_or state.places k place
     → TurnedBy script place.standing state new s k place.ended
@@ -176,7 +169,7 @@ turned-ready script state new s k ended (standing.Committing base work) e began 
 turned-ready script state new s k ended (standing.Installing base t) e began = absurd (false≢true e)
 
 pub turned-settled : (script : List Piece) (state new : State) (s : SessionNo) (k ended : ℕ) (standing : Standing) → ready_standing standing ≡ false
-    → SettledBy standing state new s k ended → TurnedBy script standing state new s k ended
+    → SettledBy script standing state new s k ended → TurnedBy script standing state new s k ended
 unfolding ready_standing TurnedBy
 turned-settled script state new s k ended standing.Ready e settled = absurd (true≢false e)
 turned-settled script state new s k ended (standing.Committing base work) e settled = settled

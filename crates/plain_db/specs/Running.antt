@@ -12,7 +12,8 @@ use Rattle.workload.specs.declared.script.Piece.TheVariants as piece
 use Rattle.workload.specs.declared.script.Workload.{Workload}
 use Rattle.mope_base.specs.Lists.{Each}
 use Rattle.workload.specs.Transaction.{Work, table_named, trial_of, work_of, Wish, ends, commits, wish_of}
-use Rattle.workload.specs.Run.{Run, Turn, Position, ready, committing, installing, Stamps, number_of, names, merged, this_or}
+use Rattle.workload.specs.Run.{Run, Turn, Position, ready, committing, installing, Stamps, number_of, names, this_or}
+use Rattle.workload.specs.History.{effect_on}
 use Rattle.plain_db.specs.declared.state.Standing.{Standing}
 use Rattle.plain_db.specs.declared.state.Standing.TheVariants as standing
 use Rattle.plain_db.specs.declared.state.Place.{Place}
@@ -83,14 +84,14 @@ BegunBy commits state new s k ended work =
     (tried : Tried) × ShowsWork tried work
     × (new ≡ moved_state state s k (record { ended = ended; standing = standing.Committing state.version tried }))
 
--- the state after a commit, by the touched table that was written after the base
-unfoldable pub committed_state : Option (TableNo × ℕ) → State → SessionNo → ℕ → ℕ → ℕ → Tried → List Act → State
-committed_state (Some newer) state s k ended base work acts =
+-- the state after the commit of a piece, by the touched table that was written after the base: its statements are done again
+unfoldable pub committed_state : Option (TableNo × ℕ) → State → SessionNo → ℕ → ℕ → ℕ → Tried → Piece → State
+committed_state (Some newer) state s k ended base work present =
     ended_state state s k ended base (end.Conflict newer.0 newer.1) work.answers
-committed_state None state s k ended base work acts =
+committed_state None state s k ended base work present =
     record (ended_state state s k ended base (end.Committed (suc state.version)) work.answers) {
       version = suc state.version;
-      current = merged acts work.copy state.current;
+      current = effect_on present state.current;
       written = written_by work.ops (suc state.version) state.written;
     }
 
@@ -114,13 +115,16 @@ wish_by None true ops = ends end.RolledBack
 wish_by None false [] = ends end.Read
 wish_by None false (t ∷ ops) = commits
 
+-- the piece of a script that stands after so many others
+unfoldable pub piece_after : List Piece → ℕ → Piece
+piece_after script ended = get_or script ended (piece.Txn [] true)
+
 -- the state after a session settled what it owed
-unfoldable pub SettledBy : Standing → State → State → SessionNo → ℕ → ℕ → Type 0
-SettledBy standing.Ready state new s k ended = new ≡ state
-SettledBy (standing.Committing base work) state new s k ended =
-    (acts : List Act) → work.ops ≡ map table_named acts
-    → new ≡ committed_state (newer_in 0 state.written base work.touched) state s k ended base work acts
-SettledBy (standing.Installing base t) state new s k ended =
+unfoldable pub SettledBy : List Piece → Standing → State → State → SessionNo → ℕ → ℕ → Type 0
+SettledBy script standing.Ready state new s k ended = new ≡ state
+SettledBy script (standing.Committing base work) state new s k ended =
+    new ≡ committed_state (newer_in 0 state.written base work.touched) state s k ended base work (piece_after script ended)
+SettledBy script (standing.Installing base t) state new s k ended =
     new ≡ installed_state (ltb base (changed_in state t)) state s k ended base t
 
 -- the state after a session began its next transaction, if one is left
@@ -134,7 +138,7 @@ BeganBy (piece.Rebuild t column ∷ rest) state new s k ended =
 -- what a turn needs of a session between a begin and a commit or install
 unfoldable pub StandingFits : ℕ → ℕ → Standing → Type 0
 StandingFits tables ended standing.Ready = Unit {0}
-StandingFits tables ended (standing.Committing base work) = (length work.copy.tables ≡ tables) × (ended + 1 < 2 ^ 32)
+StandingFits tables ended (standing.Committing base work) = ended + 1 < 2 ^ 32
 StandingFits tables ended (standing.Installing base t) = (t.0 < tables) × (ended + 1 < 2 ^ 32)
 
 -- what a turn needs of the state, over so many tables

@@ -9,5 +9,5 @@ use Rattle.plain_db.specs.Running.{SettledBy, BeganBy}
 
 unfoldable pub TurnedBy : List Piece → Standing → State → State → SessionNo → ℕ → ℕ → Type 0
 TurnedBy script standing.Ready state new s k ended = BeganBy (drop ended script) state new s k ended
-TurnedBy script (standing.Committing base work) state new s k ended = SettledBy (standing.Committing base work) state new s k ended
-TurnedBy script (standing.Installing base t) state new s k ended = SettledBy (standing.Installing base t) state new s k ended
+TurnedBy script (standing.Committing base work) state new s k ended = SettledBy script (standing.Committing base work) state new s k ended
+TurnedBy script (standing.Installing base t) state new s k ended = SettledBy script (standing.Installing base t) state new s k ended

@@ -46,7 +46,8 @@ fn ask_answer(alloc: Global, db: &PlainDb, ask: &Ask) -> Result<Answer, OutOfMem
     answer_of(alloc, &ask.verb, rows, &positions)
 }
 
-fn leave_after(alloc: Global, db: &mut PlainDb, ask: &Ask)
+/// Leaves what a statement that asks leaves.
+pub(crate) fn leave_after(alloc: Global, db: &mut PlainDb, ask: &Ask)
     requires is_there { ask.now.table.0 < length db.old.tables }
     requires numbered { IsNumbered (table_of db.old ask.now.table) }
     ensures { db.new

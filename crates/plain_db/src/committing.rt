@@ -1,17 +1,12 @@
-//! What a commit looks at and changes: stamps, and the tables of the current version.
+//! The stamps that a commit looks at and changes.
 
-ghost use Rattle.std.specs.Prelude.{◌≡◌, ◌<◌, ◌≤◌, ◌&&◌, ltb, length, map, set, List, if◌then◌else◌};
-ghost use Rattle.workload.specs.declared.script.Act.{Act};
-ghost use Rattle.workload.specs.Run.{names, merged};
-ghost use Rattle.workload.specs.PlainDatabase.{empty_table, table_of, with_table};
-ghost use Rattle.workload.specs.Transaction.{table_named};
+ghost use Rattle.std.specs.Prelude.{◌≡◌, ◌≤◌, ◌&&◌, ltb, length, set};
+ghost use Rattle.workload.specs.Run.{names};
 ghost use Rattle.plain_db.specs.Running.{newer_in, written_by};
 
 use crate::state::replace_at;
-use crate::tables::{exchange, no_rows};
 use mope_base::{Items, TableNo};
 use std::alloc::Global;
-use workload::PlainDb;
 
 /// Whether a table's number is among these.
 fn is_named(tables: &[TableNo], i: usize) -> bool
@@ -60,37 +55,5 @@ fn stamp_one(alloc: Global, written: &mut Items<u64>, t: usize, number: u64)
 {
     if t < written.as_slice().len() {
         replace_at(alloc, written, t, number);
-    }
-}
-
-/// Moves a table of the copy over, where it is one of an op.
-fn take_over(alloc: Global, current: &mut PlainDb, copy: &mut PlainDb, t: TableNo, is_op: bool)
-    requires current_has { t.0 < length current.old.tables }
-    requires copy_has { t.0 < length copy.old.tables }
-    ensures taken { current.new ≡ (if is_op then with_table current.old t (table_of copy.old t) else current.old) }
-    ensures left { copy.new ≡ (if is_op then with_table copy.old t empty_table else copy.old) }
-{
-    if is_op {
-        let table = exchange(alloc, copy, t, no_rows(alloc));
-        exchange(alloc, current, t, table);
-    }
-}
-
-/// The copy's tables in the places that the ops name.
-pub(crate) fn merge(alloc: Global, current: &mut PlainDb, copy: PlainDb, ops: &[TableNo])
-    requires same { length copy.tables ≡ length current.old.tables }
-    requires few { length current.old.tables ≤ 256 }
-    ensures { (acts : List Act) → ops.now ≡ map table_named acts → current.new ≡ merged acts copy current.old }
-{
-    let mut left = copy;
-    let count = current.tables.as_slice().len();
-    'tables: for i in 0..count {
-        take_over(
-            alloc,
-            current,
-            &mut left,
-            TableNo(i as u8),
-            is_named(ops, i),
-        );
     }
 }

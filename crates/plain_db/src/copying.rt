@@ -1,10 +1,14 @@
-//! Copies of a database.
+//! Copies of values and of rows.
 
-ghost use Rattle.std.specs.Prelude.{◌≡◌, IfOk};
+ghost use Rattle.std.specs.Prelude.{◌≡◌, ◌++◌, ◌∷◌, [], filter, IfOk, OnOk, if◌then◌else◌};
+ghost use Rattle.workload.specs.Selection.{passes};
+ghost use Rattle.workload.specs.Outcome.{value_at};
 
-use mope_base::{Items, OutOfMemory};
+use crate::rows::passes_all;
+use mope_base::{ColNo, Items, OutOfMemory};
+use sql_text::Test;
 use std::alloc::Global;
-use workload::{PlainDb, PlainRow, PlainTable};
+use workload::PlainRow;
 
 pub(crate) fn copied(alloc: Global, values: &[u64]) -> Result<Items<u64>, OutOfMemory>
     ensures { IfOk result (λ copy. copy ≡ values.now) }
@@ -12,31 +16,34 @@ pub(crate) fn copied(alloc: Global, values: &[u64]) -> Result<Items<u64>, OutOfM
     Ok(Items::from_vec(values.to_vec(alloc)?))
 }
 
-fn copied_rows(alloc: Global, rows: &[PlainRow]) -> Result<Items<PlainRow>, OutOfMemory>
-    ensures { IfOk result (λ copy. copy ≡ rows.now) }
+fn push_copy_if(
+    alloc: Global,
+    copies: &mut Vec<PlainRow>,
+    row: &PlainRow,
+    chosen: bool,
+) -> Result<(), OutOfMemory>
+    ensures { OnOk result (copies.new.items ≡ copies.old.items ++ (if chosen then row.now ∷ [] else [])) }
 {
-    let mut copy = Vec::new(alloc);
-    'rows: for i in 0..rows.len() {
-        let row = &rows[i];
+    if chosen {
         let values = copied(alloc, row.values.as_slice())?;
         let number = row.number;
-        copy.push(PlainRow { number, values })?;
+        copies.push(PlainRow { number, values })?;
     }
-    Ok(Items::from_vec(copy))
+    Ok(())
 }
 
-pub(crate) fn copied_db(alloc: Global, db: &PlainDb) -> Result<PlainDb, OutOfMemory>
-    ensures { IfOk result (λ copy. copy ≡ db.now) }
+/// Copies of the rows that meet every test, in their order.
+pub(crate) fn copied_passing(
+    alloc: Global,
+    rows: &[PlainRow],
+    tests: &[(ColNo, Test)],
+) -> Result<Items<PlainRow>, OutOfMemory>
+    ensures { IfOk result (λ copies. copies ≡ filter (passes value_at tests.now) rows.now) }
 {
-    let tables = db.tables.as_slice();
-    let mut copy = Vec::new(alloc);
-    'tables: for i in 0..tables.len() {
-        let table = &tables[i];
-        let rows = copied_rows(alloc, table.rows.as_slice())?;
-        let next = table.next;
-        copy.push(PlainTable { rows, next })?;
+    let mut copies = Vec::new(alloc);
+    'rows: for i in 0..rows.len() {
+        let row = &rows[i];
+        push_copy_if(alloc, &mut copies, row, passes_all(row, tests))?;
     }
-    Ok(PlainDb {
-        tables: Items::from_vec(copy),
-    })
+    Ok(Items::from_vec(copies))
 }

@@ -11,6 +11,7 @@ mod running;
 mod selecting;
 mod state;
 mod tables;
+mod taking_back;
 #[cfg(test)]
 mod tests;
 mod trying;

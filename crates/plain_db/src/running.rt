@@ -36,7 +36,8 @@ fn index_of(state: &State, s: SessionNo) -> Option<usize>
 fn turn(alloc: Global, w: &Workload, state: &mut State, s: SessionNo) -> Result<(), OutOfMemory>
     requires valid { IsValid w.now }
     requires reached { (r : Run) × ShowsRun w.now state.old r × IsReached w.now r }
-    ensures { (r : Run) → ShowsRun w.now state.old r → OnOk result (ShowsRun w.now state.new (take_turn r s)) }
+    ensures { (r : Run) → ShowsRun w.now state.old r → IsReached w.now r
+        → OnOk result (ShowsRun w.now state.new (take_turn r s)) }
 {
     let _taken = state.taken.as_slice().len();
     match index_of(state, s) {
@@ -57,11 +58,11 @@ fn settle_session(
     requires session { s.0 ≡ suc k }
     requires here { k < length w.now.sessions }
     requires reached { (r : Run) × ShowsRun w.now state.old r × IsReached w.now r }
-    ensures { (r : Run) → ShowsRun w.now state.old r → OnOk result (ShowsRun w.now state.new (settled r s)) }
+    ensures { (r : Run) → ShowsRun w.now state.old r → IsReached w.now r
+        → OnOk result (ShowsRun w.now state.new (settled r s)) }
 {
     let _taken = state.taken.as_slice().len();
-    let _sessions = w.sessions.as_slice().len();
-    settle(alloc, state, s, k)
+    settle(alloc, state, s, k, w.sessions.as_slice()[k].as_slice())
 }
 
 /// The list of turns, from the start on.

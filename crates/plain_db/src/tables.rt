@@ -1,15 +1,18 @@
 //! Changes of one table: a row more, or the rows that pass taken out.
 
-ghost use Rattle.std.specs.Prelude.{◌≡◌, ◌<◌, ◌^◌, length, map, filter, false, OnOk, OnErr};
+ghost use Rattle.std.specs.Prelude.{◌≡◌, ◌<◌, ◌^◌, length, map, filter, false, not, IfOk, OnOk, OnErr};
+ghost use Rattle.std.specs.Ordering.{is_lt};
 ghost use Rattle.workload.specs.PlainDatabase.{empty_table, table_of, with_table, is_full, with_row, table_without};
 ghost use Rattle.workload.specs.Selection.{passes};
 ghost use Rattle.workload.specs.Outcome.{value_at};
 ghost use Rattle.plain_db.specs.Answerable.{IsNumbered};
+ghost use Rattle.plain_db.specs.TakingBack.{by_number, without_last, with_rows};
 
 use crate::rows::passes_all;
 use mope_base::{ColNo, Items, OutOfMemory, TableNo};
 use sql_text::Test;
 use std::alloc::Global;
+use std::cmp::Ordering;
 use std::mem;
 use workload::{PlainDb, PlainRow, PlainTable};
 
@@ -103,4 +106,62 @@ pub(crate) fn take_rows_out(alloc: Global, db: &mut PlainDb, t: TableNo, tests: 
 {
     let table = exchange(alloc, db, t, no_rows(alloc));
     exchange(alloc, db, t, without_passing(table, tests));
+}
+
+fn without_last_row(table: PlainTable) -> PlainTable
+    ensures { result ≡ without_last table }
+{
+    let PlainTable { rows, next } = table;
+    let mut rows = rows.into_vec();
+    rows.pop();
+    PlainTable {
+        rows: Items::from_vec(rows),
+        next: next.saturating_sub(1),
+    }
+}
+
+/// Takes the last row out of a table. Its number is the next again.
+pub(crate) fn take_last_out(alloc: Global, db: &mut PlainDb, t: TableNo)
+    ensures { db.new ≡ with_table db.old t (without_last (table_of db.old t)) }
+{
+    if (t.0 as usize) < db.tables.as_slice().len() {
+        let table = exchange(alloc, db, t, no_rows(alloc));
+        exchange(alloc, db, t, without_last_row(table));
+    }
+}
+
+fn compared(a: &PlainRow, b: &PlainRow) -> Ordering
+    ensures { is_lt result ≡ not (by_number b.now a.now) }
+{
+    a.number.cmp(&b.number)
+}
+
+fn with_rows_back(table: PlainTable, back: Items<PlainRow>) -> Result<PlainTable, OutOfMemory>
+    ensures { IfOk result (λ whole. whole ≡ with_rows table back) }
+{
+    let PlainTable { rows, next } = table;
+    let mut rows = rows.into_vec();
+    let mut back = back.into_vec();
+    rows.append(&mut back)?;
+    rows.sort_by(compared)?;
+    Ok(PlainTable {
+        rows: Items::from_vec(rows),
+        next,
+    })
+}
+
+/// Puts rows into a table again, each at the place of its number.
+pub(crate) fn put_rows_back(
+    alloc: Global,
+    db: &mut PlainDb,
+    t: TableNo,
+    back: Items<PlainRow>,
+) -> Result<(), OutOfMemory>
+    ensures { OnOk result (db.new ≡ with_table db.old t (with_rows (table_of db.old t) back)) }
+{
+    if (t.0 as usize) < db.tables.as_slice().len() {
+        let table = exchange(alloc, db, t, no_rows(alloc));
+        exchange(alloc, db, t, with_rows_back(table, back)?);
+    }
+    Ok(())
 }

@@ -4,14 +4,14 @@ ghost use Rattle.std.specs.Prelude.{◌≡◌, ◌<◌, ◌≤◌, ◌^◌, ◌+
 ghost use Rattle.workload.specs.declared.script.Act.{Act};
 ghost use Rattle.mope_base.specs.Lists.{Each};
 ghost use Rattle.plain_db.specs.declared.state.Place.{Place as PlaceValue};
-ghost use Rattle.workload.specs.Transaction.{table_named, wish_of, wish_after, work_of, trial_of};
+ghost use Rattle.workload.specs.Transaction.{wish_of, wish_after, work_of, trial_of};
 ghost use Rattle.plain_db.specs.Trying.{AllNumbered, Fits};
-ghost use Rattle.plain_db.specs.Running.{newer_in, wish_shown, wish_by, ended_state, BegunBy, committed_state, changed_in, installed_state, SettledBy, BeganBy, StateFits, PieceFits, ready_standing};
+ghost use Rattle.plain_db.specs.Running.{newer_in, wish_shown, wish_by, ended_state, BegunBy, committed_state, changed_in, installed_state, SettledBy, BeganBy, StateFits, PieceFits, piece_after, ready_standing};
 ghost use Rattle.plain_db.specs.Turned.{TurnedBy};
 
-use crate::committing::{merge, newer_than, stamp};
+use crate::committing::{newer_than, stamp};
 use crate::state::{Place, Standing, State, moved, replace_at, with_done};
-use crate::trying::{Tried, try_all};
+use crate::trying::{Tried, redo, try_all};
 use mope_base::{Items, OutOfMemory, SessionNo, TableNo};
 use std::alloc::Global;
 use workload::{Act, Answer, End, Piece};
@@ -74,7 +74,7 @@ fn begin_txn(
     ensures { OnOk result (let trial = trial_of state.old.current acts.now in
         BegunBy (wish_of rollback trial) state.old state.new s k ended (work_of trial)) }
 {
-    let (tried, full) = try_all(alloc, &state.current, acts)?;
+    let (tried, full) = try_all(alloc, &mut state.current, acts)?;
     let base = state.version;
     match end_at_begin(full, rollback, tried.ops.as_slice()) {
         Some(e) => end_txn(alloc, state, s, k, ended, base, e, tried.answers),
@@ -94,23 +94,22 @@ fn make_version(
     ended: usize,
     base: u64,
     work: Tried,
+    script: &[Piece],
 ) -> Result<(), OutOfMemory>
     requires here { k < length state.old.places }
     requires few { ended + 1 < 2 ^ 32 }
-    requires same { length work.copy.tables ≡ length state.old.current.tables }
-    requires few_tables { length state.old.current.tables ≤ 256 }
     requires few_versions { state.old.version < 2 ^ 63 }
-    ensures { (acts : List Act) → work.ops ≡ map table_named acts
-        → OnOk result (state.new ≡ committed_state None state.old s k ended base work acts) }
+    requires numbered { AllNumbered state.old.current }
+    requires fit { Each (PieceFits (length state.old.current.tables)) script.now }
+    ensures { OnOk result (state.new ≡ committed_state None state.old s k ended base work (piece_after script.now ended)) }
 {
     let Tried {
         answers,
-        copy,
         ops,
         touched: _,
     } = work;
     let number = state.version + 1;
-    merge(alloc, &mut state.current, copy, ops.as_slice());
+    redo(alloc, &mut state.current, script, ended)?;
     stamp(alloc, &mut state.written, ops.as_slice(), number);
     state.version = number;
     end_txn(
@@ -134,16 +133,16 @@ fn commit(
     ended: usize,
     base: u64,
     work: Tried,
+    script: &[Piece],
 ) -> Result<(), OutOfMemory>
     requires here { k < length state.old.places }
     requires few { ended + 1 < 2 ^ 32 }
-    requires same { length work.copy.tables ≡ length state.old.current.tables }
-    requires few_tables { length state.old.current.tables ≤ 256 }
     requires few_stamps { length state.old.written ≤ 256 }
     requires few_versions { state.old.version < 2 ^ 63 }
-    ensures { (acts : List Act) → work.ops ≡ map table_named acts
-        → OnOk result (state.new
-        ≡ committed_state (newer_in 0 state.old.written base work.touched) state.old s k ended base work acts) }
+    requires numbered { AllNumbered state.old.current }
+    requires fit { Each (PieceFits (length state.old.current.tables)) script.now }
+    ensures { OnOk result (state.new
+        ≡ committed_state (newer_in 0 state.old.written base work.touched) state.old s k ended base work (piece_after script.now ended)) }
 {
     match newer_than(state.written.as_slice(), base, work.touched.as_slice()) {
         Some((t, number)) => end_txn(
@@ -156,7 +155,7 @@ fn commit(
             End::Conflict(t, number),
             work.answers,
         ),
-        None => make_version(alloc, state, s, k, ended, base, work),
+        None => make_version(alloc, state, s, k, ended, base, work, script),
     }
 }
 
@@ -225,11 +224,13 @@ pub(crate) fn settle(
     state: &mut State,
     s: SessionNo,
     k: usize,
+    script: &[Piece],
 ) -> Result<(), OutOfMemory>
     requires here { k < length state.old.places }
     requires fits { StateFits (length state.old.current.tables) state.old }
+    requires fit { Each (PieceFits (length state.old.current.tables)) script.now }
     ensures { (d : PlaceValue) → let place = get_or state.old.places k d in
-        OnOk result (SettledBy place.standing state.old state.new s k place.ended) }
+        OnOk result (SettledBy script.now place.standing state.old state.new s k place.ended) }
 {
     let empty = Place {
         ended: 0,
@@ -245,7 +246,9 @@ pub(crate) fn settle(
             replace_at(alloc, &mut state.places, k, place);
             Ok(())
         }
-        Standing::Committing { base, work } => commit(alloc, state, s, k, ended, base, work),
+        Standing::Committing { base, work } => {
+            commit(alloc, state, s, k, ended, base, work, script)
+        }
         Standing::Installing { base, table } => install(alloc, state, s, k, ended, base, table),
     }
 }
@@ -319,6 +322,6 @@ pub(crate) fn turn_at(
     if is_ready(&place.standing) {
         begin(alloc, state, s, k, ended, script)
     } else {
-        settle(alloc, state, s, k)
+        settle(alloc, state, s, k, script)
     }
 }

@@ -15,12 +15,12 @@ ended_of-first-requires c =
       arith,
       c.requires.here,
       place-count c.args.w.now c.settle_session.new.state (settled c.requires.reached.0 c.args.s)
-          (c.in_ok-settle_session.ensures c.requires.reached.0 c.requires.reached.1) (by_settling c.requires.reached.0 c.requires.reached.2 c.args.s),
+          (c.in_ok-settle_session.ensures c.requires.reached.0 c.requires.reached.1 c.requires.reached.2) (by_settling c.requires.reached.0 c.requires.reached.2 c.args.s),
     )
 
 pub pieces-init : goal.pieces-init
 pieces-init c = λ r shows reached.
-    finish-begin c.args.w.now c.settle_session.new.state r c.args.s c.args.k c.ended_of-first.result (c.in_ok-settle_session.ensures r shows) reached
+    finish-begin c.args.w.now c.settle_session.new.state r c.args.s c.args.k c.ended_of-first.result (c.in_ok-settle_session.ensures r shows reached) reached
     c.requires.session c.requires.here (c.ended_of-first.ensures no_place)
 
 pub turn-requires-clause-reached : goal.turn-requires-clause-reached
@@ -31,7 +31,7 @@ turn-requires-clause-reached c =
 pub settle_session-requires-in-pieces-clause-reached : goal.settle_session-requires-in-pieces-clause-reached
 settle_session-requires-in-pieces-clause-reached c =
     let finishing = c.pieces.invariant c.requires.reached.0 c.requires.reached.1 c.requires.reached.2 in
-    (take_turn finishing.now c.args.s, c.in_ok-turn.ensures finishing.now finishing.shows, by_turn finishing.now finishing.reached c.args.s)
+    (take_turn finishing.now c.args.s, c.in_ok-turn.ensures finishing.now finishing.shows finishing.reached, by_turn finishing.now finishing.reached c.args.s)
 
 pub pieces-preserved : goal.pieces-preserved
 pieces-preserved c = λ r shows reached.
@@ -44,7 +44,8 @@ pieces-preserved c = λ r shows reached.
     let finishing : IsFinishing c.args.w.now c.pieces.state c.args.s (present ∷ drop (c.pieces.i + 1) script) (finished_session r c.args.s) =
     subst (λ l. IsFinishing c.args.w.now c.pieces.state c.args.s l (finished_session r c.args.s)) rest (c.pieces.invariant r shows reached) in
     finish-more c.args.w.now c.pieces.state c.settle_session-in-pieces.new.state c.args.s present (drop (c.pieces.i + 1) script) (finished_session r c.args.s) finishing
-    (c.in_ok-settle_session-2.ensures (take_turn finishing.now c.args.s) (c.in_ok-turn.ensures finishing.now finishing.shows))
+    (c.in_ok-settle_session-2.ensures (take_turn finishing.now c.args.s) (c.in_ok-turn.ensures finishing.now finishing.shows finishing.reached)
+    (by_turn finishing.now finishing.reached c.args.s))
 
 pub returns : goal.returns
 returns c = λ r shows reached.

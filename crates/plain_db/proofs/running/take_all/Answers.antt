@@ -17,7 +17,8 @@ turn-requires-clause-reached c =
 pub turns-preserved : goal.turns-preserved
 turns-preserved c =
     subst (ShowsRun c.args.w.now c.turn.new.state) (turns-more (initial c.args.w.now) c.args.turns.now c.turns.i _ c.turns-test.true)
-    (c.in_ok-turn.ensures (take_turns (initial c.args.w.now) (take c.turns.i c.args.turns.now)) c.turns.invariant)
+    (c.in_ok-turn.ensures (take_turns (initial c.args.w.now) (take c.turns.i c.args.turns.now)) c.turns.invariant
+    (turns-reached c.args.w.now (initial c.args.w.now) (take c.turns.i c.args.turns.now) at_start))
 
 pub returns : goal.returns
 returns c =

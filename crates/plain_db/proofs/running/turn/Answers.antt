@@ -40,12 +40,12 @@ turn_at-requires-clause-fit c =
     (script-valid c.args.w.now c.in-Some.k c.requires.valid).valid)
 
 pub returns-in-None : goal.returns-in-None
-returns-in-None c = λ r shows. skipped c.args.w.now c.args.state.now r c.args.s shows (rw c.in-None.is at c.index_of.ensures)
+returns-in-None c = λ r shows reached. skipped c.args.w.now c.args.state.now r c.args.s shows (rw c.in-None.is at c.index_of.ensures)
 
 pub returns-in-Some : goal.returns-in-Some
-returns-in-Some c = λ r shows.
+returns-in-Some c = λ r shows reached.
     let script : c.as_slice-in-Some.result.now ≡ get_or c.args.w.now.sessions c.in-Some.k [] =
     c.as_slice-in-Some.ensures ∙ script-read c.args.w.now c.as_slice.result.now c.in-Some.k c.index-as_slice-k.result c.as_slice.ensures c.index-as_slice-k.is
     (omega (arith, c.in-Some.ensures.1, place-count c.args.w.now c.args.state.now c.requires.reached.0 c.requires.reached.1 c.requires.reached.2)) in
-    on_ok_turned c.turn_at.result c.args.w.now c.args.state.now c.turn_at.new.state r c.args.s c.in-Some.k shows c.in-Some.ensures.0 c.in-Some.ensures.1
+    on_ok_turned c.turn_at.result c.args.w.now c.args.state.now c.turn_at.new.state r c.args.s c.in-Some.k shows reached c.in-Some.ensures.0 c.in-Some.ensures.1
     (rw script at c.turn_at.ensures)

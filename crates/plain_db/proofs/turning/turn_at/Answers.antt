@@ -21,5 +21,5 @@ returns-else-is_ready c = λ d.
     (rw c.as_slice.ensures at c.index-as_slice-k.is)
     (turned-settled c.args.script.now c.args.state.now c.settle.new.state c.args.s c.args.k c.index-as_slice-k.result.ended c.index-as_slice-k.result.standing
     (sym c.is_ready.ensures ∙ c.if-is_ready.false)
-    (subst (λ (p : Place). SettledBy p.standing c.args.state.now c.settle.new.state c.args.s c.args.k p.ended) (sym (rw c.as_slice.ensures at c.index-as_slice-k.is)) settled)) d)
+    (subst (λ (p : Place). SettledBy c.args.script.now p.standing c.args.state.now c.settle.new.state c.args.s c.args.k p.ended) (sym (rw c.as_slice.ensures at c.index-as_slice-k.is)) settled)) d)
     (c.settle.ensures c.index-as_slice-k.result)

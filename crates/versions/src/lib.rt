@@ -1,0 +1,20 @@
+//! The versions of the tables: what a commit and an install make of one, and the turns of which a version is the outcome.
+#![tactic(auto)]
+
+mod applying;
+mod change;
+mod op;
+mod snapshot;
+mod turn;
+mod version;
+
+pub use applying::{apply_ops, apply_rebuild};
+pub use change::ColumnChange;
+pub use enc_table::{Stamps, Table};
+pub use mope_base::{Body, ColNo, Items, Mode, OutOfMemory, SessionNo, TableNo};
+pub use op::Op;
+pub use ope_tree::Place;
+pub use snapshot::{Ending, Snapshot};
+pub use summary::Summary;
+pub use turn::{Turn, TurnKind};
+pub use version::Version;

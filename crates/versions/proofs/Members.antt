@@ -48,3 +48,9 @@ shared-at number same_time limit shares table share members h is =
     ap arc_value is
     ∙ sym (get_or-map arc_value shares table share (arc_value share) h)
     ∙ member-at number same_time limit (tables_of shares) table (arc_value share) members (omega (arith, h, length-map shares arc_value))
+
+pub share-member : {Z : Type 0} (same_time : Bool) (limit : ℕ) (shares : List (Arc Seen Z)) (table : ℕ) (share : Arc Seen Z) → Each (IsMember same_time limit) (tables_of shares) → table < length shares → share ≡ get_or shares table share → IsMember same_time limit (arc_value share)
+unfolding Each
+share-member same_time limit [] table share members h is = absurd (omega (arith, h))
+share-member same_time limit (x ∷ shares) zero share members h is = subst (IsMember same_time limit) (sym (ap arc_value is)) members.0
+share-member same_time limit (x ∷ shares) (suc table) share members h is = share-member same_time limit shares table share members.1 (omega (arith, h)) is

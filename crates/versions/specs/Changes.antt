@@ -17,14 +17,16 @@ is_nothing (x ∷ xs) = false
 unfoldable pub leaves_codes : Sum → Bool
 leaves_codes s = is_nothing s.moved && is_nothing s.dropped && is_nothing s.added
 
+-- a column's change in front of others, unless it leaves all codes
+unfoldable pub listed : ℕ → ℕ → Sum → List ColumnChange → List ColumnChange
+listed table column s changes = unless (leaves_codes s) (record { table = record { 0 = table }; column = record { 0 = column }; summary = s }) changes
+
 -- what each column's list of operations does to its codes, from a column of a table on; a column whose codes all stay isn't listed
 unfoldable pub column_changes : Bool → ℕ → ℕ → List (List (Operation Body)) → List (Column Body) → List ColumnChange
 column_changes same_time table column [] cs = []
 column_changes same_time table column (operations ∷ more) [] = []
 column_changes same_time table column (operations ∷ more) (c ∷ cs) =
-    unless (leaves_codes (sum_of same_time operations c))
-    (record { table = record { 0 = table }; column = record { 0 = column }; summary = sum_of same_time operations c })
-    (column_changes same_time table (suc column) more cs)
+    listed table column (sum_of same_time operations c) (column_changes same_time table (suc column) more cs)
 
 -- the same from a table on, where `steps` tells the lists of each table's columns
 unfoldable pub table_changes : Bool → (ℕ → List (List (Operation Body))) → ℕ → List (Shelf Body) → List ColumnChange

@@ -1,5 +1,6 @@
 -- What contracts see of a version: the tables of a database at one number, by rank, and when each was last changed.
 use Rattle.std.specs.Prelude.{◌≡◌, ℕ, ◌≤◌, ◌^◌, Bool, false, List, [], ◌∷◌, length, map, get_or, refl}
+use Rattle.std.specs.List.{range_with_len}
 use Rattle.std.specs.Coded.{Coded, code_by, coded×, coded_ℕ, coded_bool, coded_list}
 use Rattle.mope_base.specs.declared.body.Body.{Body}
 use Rattle.mope_base.specs.Lists.{Each}
@@ -33,6 +34,10 @@ stamps_at stamps table = get_or stamps table no_stamps
 -- one of its tables
 unfoldable pub table_at : Database → ℕ → Seen
 table_at d table = record { shelf = shelf_at d.shelves table; same_time = d.same_time; limit = d.limit; stamps = stamps_at d.stamps table; spent = false }
+
+-- all of them in order
+unfoldable pub tables_in : Database → List Seen
+tables_in d = map (table_at d) (range_with_len 0 (length d.shelves))
 
 -- ---- of tables
 

@@ -5,3 +5,5 @@ pub mod Operations
 pub mod Changes
 pub mod Turns
 pub mod Newer
+pub mod Summed
+pub mod Drafts

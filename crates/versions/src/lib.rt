@@ -3,15 +3,20 @@
 
 mod applying;
 mod change;
+mod composing;
+mod draft;
+mod laying;
+mod listing;
 mod op;
 mod snapshot;
 mod turn;
 mod version;
 
-pub use applying::{apply_ops, apply_rebuild};
+pub use applying::apply_ops;
 pub use change::ColumnChange;
 pub use enc_table::{Stamps, Table};
 pub use mope_base::{Body, ColNo, Items, Mode, OutOfMemory, SessionNo, TableNo};
+pub use laying::apply_rebuild;
 pub use op::Op;
 pub use ope_tree::Place;
 pub use snapshot::{Ending, Snapshot};

@@ -1,4 +1,7 @@
 //! The operations of a transaction.
+ghost use Rattle.std.specs.Prelude.{◌≡◌};
+ghost use Rattle.versions.specs.Operations.{op_table, rank_op};
+
 use mope_base::{Body, Items, TableNo};
 use ope_tree::Place;
 
@@ -16,4 +19,16 @@ pub enum Op {
         table: TableNo,
         rows: Items<u64>,
     },
+}
+
+impl Op {
+    /// The table that it is on.
+    pub fn table(&self) -> TableNo
+        ensures { result.0 ≡ op_table (rank_op self.now) }
+    {
+        match self {
+            Op::Insert { table, .. } => *table,
+            Op::Delete { table, .. } => *table,
+        }
+    }
 }

@@ -1,8 +1,10 @@
 //! Versions of the tables.
 ghost use Rattle.enc_table.specs.Seen.{new_table};
 ghost use Rattle.mope_base.specs.Modes.{is_same_time};
-ghost use Rattle.std.specs.Prelude.{All, ◌≡◌, ◌<◌, ◌≤◌, ◌↔◌, IfOk, IfSome, IsSome, length, map};
-ghost use Rattle.versions.specs.Databases.{IsDatabase, first_database, table_at};
+ghost use Rattle.mope_base.specs.Lists.{Each};
+ghost use Rattle.std.specs.Arc.{arc_value};
+ghost use Rattle.std.specs.Prelude.{All, ◌≡◌, ◌+◌, ◌<◌, ◌≤◌, ◌^◌, ◌↔◌, IfOk, IfSome, IsSome, length, map};
+ghost use Rattle.versions.specs.Databases.{IsDatabase, IsMember, database_of, first_database, table_at};
 ghost use Rattle.versions.specs.Inside.{tables_of};
 
 use enc_table::Table;
@@ -120,6 +122,41 @@ impl Version {
         match self.tables.get(table.0 as usize) {
             None => None,
             Some(found) => Some(found),
+        }
+    }
+
+    /// A copy of a table, which must be there. Until one of them changes both share all pages.
+    pub(crate) fn copy_of(&self, table: TableNo) -> Result<Table, OutOfMemory>
+        requires { table.0 < length self.now.shelves }
+        ensures { IfOk result (λ copy. copy ≡ table_at self.now table.0) }
+    {
+        let found = self.table(table).unwrap();
+        let copy = found.copy()?;
+        Ok(copy)
+    }
+
+    /// A further share of a table, which must be there.
+    pub(crate) fn share_of(&self, table: TableNo) -> Result<Arc<Table, Global>, OutOfMemory>
+        requires { table.0 < length self.now.shelves }
+        ensures value { IfOk result (λ share. arc_value share ≡ table_at self.now table.0) }
+        ensures member { IfOk result (λ share. IsMember self.now.same_time self.now.limit (arc_value share)) }
+    {
+        let share = Arc::try_clone(&self.tables[table.0 as usize])?;
+        Ok(share)
+    }
+
+    /// The version of these tables at the next number.
+    pub(crate) fn next(&self, tables: Vec<Arc<Table, Global>>) -> Version
+        requires number { self.now.number < 2 ^ 63 }
+        requires few { length tables.items ≤ 16 }
+        requires members { Each (IsMember self.now.same_time self.now.limit) (tables_of tables.items) }
+        ensures { result ≡ database_of (self.now.number + 1) self.now.same_time self.now.limit (tables_of tables.items) }
+    {
+        Version {
+            number: self.number + 1,
+            mode: self.mode,
+            limit: self.limit,
+            tables,
         }
     }
 }

@@ -1,0 +1,16 @@
+use Rattle.std.proofs.Common.{rules, ◌≡◌, ◌++◌, ◌<◌, ◌^◌, IfOk, OnOk, length, true, ℕ, ◌+◌, ◌-◌, ◌*◌, ◌≤◌, ◌/◌, ◌%◌, Bool, false, nat_eq, nat_lt, List, [], ◌∷◌, slice_index_or, slice_set, bit_and, bit_or, Fits, w8, w32, w64, Bor, MutBor}
+use Rattle.std.specs.Arc.{arc_value}
+use Rattle.table_model.specs.Operations.{ops_steps, shelf_at}
+use Rattle.versions.specs.Changes.{column_changes, ops_changes}
+use Rattle.versions.specs.Databases.{IsMember, table_at}
+use Rattle.versions.specs.Drafts.{is_written}
+use Rattle.versions.specs.Operations.{OpsFit, rank_ops, with_ops}
+use Rattle.versions.proofs.applying.table_after.Goals as goal
+
+-- src/applying.rt:56:1
+pub returns-clause-value : goal.returns-clause-value
+returns-clause-value c = ?
+
+-- src/applying.rt:56:1
+pub returns-clause-changes : goal.returns-clause-changes
+returns-clause-changes c = ?

@@ -114,7 +114,6 @@ chain-both same_time c operations xs ys cut =
 
 -- ---- two lists of changes, each as one
 
-
 pub in_turn-first : (xs ys sums : List Sum) → xs ++ ys ≡ sums → AreInTurn sums → AreInTurn xs
 in_turn-first xs ys sums e h =
     let cut = chain-cut h.same_time h.column h.operations xs ys (subst (λ (l : List Sum). IsSummed h.same_time h.column h.operations l) (sym e) h.summed) in

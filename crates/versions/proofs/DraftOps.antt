@@ -34,7 +34,6 @@ pub record IsAt (d : Database) (table : ℕ) (ops : List Op) (at : ℕ) (op : Op
   pub names : op ≡ get_or ops at op
   pub draft : IsDraft d table (rank_ops (take at ops)) made log
 
-
 fits : (d : Database) (table : ℕ) (ops : List Op) (at : ℕ) (op : Op) (made : Seen) (log : List Logged) → IsAt d table ops at op made log → OpFitsAt d.limit (rank_op op) (rank_ops_on d.same_time (rank_ops (take at ops)) d.shelves)
 fits d table ops at op made log h = fits-at d.same_time d.limit ops at op d.shelves h.fit.fit h.within h.names
 
@@ -75,9 +74,9 @@ insert-here d table ops at named places bodies made log h fit number is =
       room = omega (arith, fit.room, ap (λ (s : Shelf Body). length s.kept) made_shelf, made_limit);
       number = omega (arith, number, ap (λ (s : Shelf Body). s.next) made_shelf);
       next = one_further d table ops at op _ _ h.within h.names
-        (subst (λ (o : RankOp Body). IsDraft d table (rank_ops (take at ops) ++ o ∷ []) (with_shelf (insert_row made.same_time places bodies made.shelf) made) (log ++ Row (sums made.same_time (adds places bodies) made.shelf.columns) ∷ [])) (sym is)
-        (inserts d table (rank_ops (take at ops)) places bodies made log h.is h.there h.draft fit.placed fit.wide (sound d table ops at op made log h)
-        (subst (λ (o : RankOp Body). AllSoundShelves d.same_time d.limit (rank_op_on d.same_time o shelves)) is (sound-after d table ops at op made log h))));
+          (subst (λ (o : RankOp Body). IsDraft d table (rank_ops (take at ops) ++ o ∷ []) (with_shelf (insert_row made.same_time places bodies made.shelf) made) (log ++ Row (sums made.same_time (adds places bodies) made.shelf.columns) ∷ [])) (sym is)
+          (inserts d table (rank_ops (take at ops)) places bodies made log h.is h.there h.draft fit.placed fit.wide (sound d table ops at op made log h)
+          (subst (λ (o : RankOp Body). AllSoundShelves d.same_time d.limit (rank_op_on d.same_time o shelves)) is (sound-after d table ops at op made log h))));
     }
 
 pub insert-asks : (d : Database) (table : ℕ) (ops : List Op) (at : ℕ) (named : TableNo) (places : List Place) (bodies : List Body) (made : Seen) (log : List Logged) → IsAt d table ops at (Insert named places bodies) made log → eqb named.0 table ≡ true → InsertAsks d table ops at named places bodies made log
@@ -108,8 +107,8 @@ delete-here d table ops at named rows made log h fit is =
       rise = fit.rise;
       live = subst (λ (s : Shelf Body). AllAmong (kept_numbers s.kept) rows) (sym made_shelf) fit.live;
       next = one_further d table ops at op _ _ h.within h.names
-        (subst (λ (o : RankOp Body). IsDraft d table (rank_ops (take at ops) ++ o ∷ []) (with_shelf (delete_rows made.same_time rows made.shelf) made) (log ++ Rows (delete_sums made.same_time rows made.shelf) ∷ [])) (sym is)
-        (deletes d table (rank_ops (take at ops)) rows made log h.is h.there h.draft (sound d table ops at op made log h)));
+          (subst (λ (o : RankOp Body). IsDraft d table (rank_ops (take at ops) ++ o ∷ []) (with_shelf (delete_rows made.same_time rows made.shelf) made) (log ++ Rows (delete_sums made.same_time rows made.shelf) ∷ [])) (sym is)
+          (deletes d table (rank_ops (take at ops)) rows made log h.is h.there h.draft (sound d table ops at op made log h)));
     }
 
 pub delete-asks : (d : Database) (table : ℕ) (ops : List Op) (at : ℕ) (named : TableNo) (rows : List ℕ) (made : Seen) (log : List Logged) → IsAt d table ops at (Delete named rows) made log → eqb named.0 table ≡ true → DeleteAsks d table ops at rows made log

@@ -74,24 +74,24 @@ starts d table is h =
 pub one_more : (d : Database) (table : ℕ) (ops : List (RankOp Body)) (op : RankOp Body) (made next : Seen) (log after : List Logged) → IsDraft d table ops made log
     → next ≡ with_shelf (shelf_at (rank_op_on d.same_time op (rank_ops_on d.same_time ops d.shelves)) table) (table_at d table)
     → ((column : ℕ) → column < length (shelf_at d.shelves table).columns → (ys : List Sum) × ((all_noted after column ≡ all_noted log column ++ ys)
-        × IsSummed d.same_time (column_at (shelf_at (rank_ops_on d.same_time ops d.shelves) table).columns column) (get_or (op_steps d.same_time table op (rank_ops_on d.same_time ops d.shelves)) column []) ys))
+    × IsSummed d.same_time (column_at (shelf_at (rank_ops_on d.same_time ops d.shelves) table).columns column) (get_or (op_steps d.same_time table op (rank_ops_on d.same_time ops d.shelves)) column []) ys))
     → IsDraft d table (ops ++ op ∷ []) next after
 unfolding rank_ops_on
 one_more d table ops op made next log after draft seen each =
     record {
       seen = seen ∙ ap (λ (shelves : List (Shelf Body)). with_shelf (shelf_at shelves table) (table_at d table)) (sym (rank_ops_on-append d.same_time ops (op ∷ []) d.shelves));
       summed = λ column within.
-        let c = column_at (shelf_at d.shelves table).columns column in
-        let before = get_or (ops_steps d.same_time table ops d.shelves) column [] in
-        let mid = rank_ops_on d.same_time ops d.shelves in
-        let part = get_or (op_steps d.same_time table op mid) column [] in
-        let more = each column within in
-        let chain : IsSummed d.same_time c (before ++ part) (all_noted log column ++ more.0) = chain-append d.same_time c before part (all_noted log column) more.0 (draft.summed column within)
+          let c = column_at (shelf_at d.shelves table).columns column in
+          let before = get_or (ops_steps d.same_time table ops d.shelves) column [] in
+          let mid = rank_ops_on d.same_time ops d.shelves in
+          let part = get_or (op_steps d.same_time table op mid) column [] in
+          let more = each column within in
+          let chain : IsSummed d.same_time c (before ++ part) (all_noted log column ++ more.0) = chain-append d.same_time c before part (all_noted log column) more.0 (draft.summed column within)
           (subst (λ (e : Column Body). IsSummed d.same_time e part more.0) (ops-column d.same_time table column ops d.shelves within) more.1.1) in
-        let operations : before ++ part ≡ get_or (ops_steps d.same_time table (ops ++ op ∷ []) d.shelves) column [] =
+          let operations : before ++ part ≡ get_or (ops_steps d.same_time table (ops ++ op ∷ []) d.shelves) column [] =
           sym (steps-append d.same_time table column ops (op ∷ []) d.shelves ∙ ap (λ (rest : List (Operation Body)). before ++ rest) (steps-one d.same_time table column op mid)) in
-        subst (λ (l : List (Operation Body)). IsSummed d.same_time c l (all_noted after column)) operations
-        (subst (λ (l : List Sum). IsSummed d.same_time c (before ++ part) l) (sym more.1.0) chain);
+          subst (λ (l : List (Operation Body)). IsSummed d.same_time c l (all_noted after column)) operations
+          (subst (λ (l : List Sum). IsSummed d.same_time c (before ++ part) l) (sym more.1.0) chain);
     }
 
 -- ---- a row comes in
@@ -136,8 +136,8 @@ low-after d table ops op column is there within sound =
     let sound_after : AllSoundShelves d.same_time d.limit after = subst (λ (shelves : List (Shelf Body)). AllSoundShelves d.same_time d.limit shelves) (sym (one-op d.same_time op mid)) sound in
     let mid_within : column < length (shelf_at mid table).columns = omega (arith, within, ops-columns d.same_time table ops d.shelves) in
     let low : height (column_at (shelf_at after table).columns column).tree ≤ 63 =
-      low-column d.same_time d.limit (shelf_at after table) column (sound-at d.same_time d.limit after table sound_after (omega (arith, there, ops-length d.same_time ops d.shelves, ops-length d.same_time (op ∷ []) mid))) is.low
-      (omega (arith, mid_within, ops-columns d.same_time table (op ∷ []) mid)) in
+    low-column d.same_time d.limit (shelf_at after table) column (sound-at d.same_time d.limit after table sound_after (omega (arith, there, ops-length d.same_time ops d.shelves, ops-length d.same_time (op ∷ []) mid))) is.low
+    (omega (arith, mid_within, ops-columns d.same_time table (op ∷ []) mid)) in
     subst (λ (c : Column Body). height c.tree ≤ 63)
     (ops-column d.same_time table column (op ∷ []) mid mid_within ∙ ap (λ (l : List (Operation Body)). apply_all d.same_time l (column_at (shelf_at mid table).columns column)) (steps-one d.same_time table column op mid)) low
 
@@ -150,7 +150,7 @@ insert-chain : (d : Database) (table : ℕ) (ops : List (RankOp Body)) (places :
     → AllPlaced (shelf_at (rank_ops_on d.same_time ops d.shelves) table).columns places → length bodies ≡ length (shelf_at (rank_ops_on d.same_time ops d.shelves) table).columns
     → AllSoundShelves d.same_time d.limit (rank_ops_on d.same_time ops d.shelves) → AllSoundShelves d.same_time d.limit (rank_op_on d.same_time (InsertAt table places bodies) (rank_ops_on d.same_time ops d.shelves))
     → IsSummed d.same_time (column_at (shelf_at (rank_ops_on d.same_time ops d.shelves) table).columns column) (get_or (op_steps d.same_time table (InsertAt table places bodies) (rank_ops_on d.same_time ops d.shelves)) column [])
-      (one_at (sums d.same_time (adds places bodies) (shelf_at (rank_ops_on d.same_time ops d.shelves) table).columns) column)
+    (one_at (sums d.same_time (adds places bodies) (shelf_at (rank_ops_on d.same_time ops d.shelves) table).columns) column)
 insert-chain d table ops places bodies log column is there within placed wide sound sound_after =
     let op : RankOp Body = InsertAt table places bodies in
     let mid = rank_ops_on d.same_time ops d.shelves in
@@ -273,9 +273,14 @@ deletes d table ops numbers made log is there draft sound =
     subst (λ (m : Seen). IsDraft d table (ops ++ op ∷ []) (with_shelf (delete_rows m.same_time numbers m.shelf) m) (log ++ Rows (delete_sums m.same_time numbers m.shelf) ∷ [])) (sym draft.seen)
     (one_more d table ops op made (with_shelf (delete_rows d.same_time numbers s) (table_at d table)) log (log ++ Rows lists ∷ []) draft
     (ap (λ (u : Shelf Body). with_shelf u (table_at d table)) (sym (deleted d.same_time table numbers mid there_mid)))
-    (λ column within. (get_or lists column [], (log-more log (Rows lists) column ∙ ap (λ (l : List Sum). all_noted log column ++ l) (noted-rows lists column),
-      subst (λ (steps : List (List (Operation Body))). IsSummed d.same_time (column_at s.columns column) (get_or steps column []) (get_or lists column [])) (sym (delete-op_steps d.same_time table numbers mid))
-      (deleted-chain d.same_time d.limit numbers s column (sound-at d.same_time d.limit mid table sound there_mid) is.low (omega (arith, within, ops-columns d.same_time table ops d.shelves)))))))
+    (λ column within. (
+      get_or lists column [],
+      (
+        log-more log (Rows lists) column ∙ ap (λ (l : List Sum). all_noted log column ++ l) (noted-rows lists column),
+        subst (λ (steps : List (List (Operation Body))). IsSummed d.same_time (column_at s.columns column) (get_or steps column []) (get_or lists column [])) (sym (delete-op_steps d.same_time table numbers mid))
+            (deleted-chain d.same_time d.limit numbers s column (sound-at d.same_time d.limit mid table sound there_mid) is.low (omega (arith, within, ops-columns d.same_time table ops d.shelves))),
+      ),
+    )))
 
 -- ---- an operation on another table
 
@@ -286,6 +291,11 @@ elsewhere d table ops op made log is there draft sound other =
     let mid = rank_ops_on d.same_time ops d.shelves in
     one_more d table ops op made made log log draft
     (draft.seen ∙ ap (λ (u : Shelf Body). with_shelf u (table_at d table)) (sym (op-elsewhere d.same_time op mid table other)))
-    (λ column within. ([], (sym (append-nil (all_noted log column)),
-      subst (λ (steps : List (List (Operation Body))). IsSummed d.same_time (column_at (shelf_at mid table).columns column) (get_or steps column []) []) (sym (steps-elsewhere d.same_time op mid table other))
-      (low-mid d table ops column is there within sound, refl))))
+    (λ column within. (
+      [],
+      (
+        sym (append-nil (all_noted log column)),
+        subst (λ (steps : List (List (Operation Body))). IsSummed d.same_time (column_at (shelf_at mid table).columns column) (get_or steps column []) []) (sym (steps-elsewhere d.same_time op mid table other))
+            (low-mid d table ops column is there within sound, refl),
+      ),
+    ))

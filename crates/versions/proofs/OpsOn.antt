@@ -1,5 +1,5 @@
 -- Operations on several tables, one list after another, and what they are to one of the tables.
-use Rattle.std.proofs.Common.{◌≡◌, ◌≢◌, ℕ, suc, zero, ◌<◌, Bool, true, false, ◌||◌, ◌==◌, List, [], ◌∷◌, ◌++◌, length, map, take, get_or, refl, ap, ap₂, sym, ◌∙◌, subst, arith, append_assoc, eqb, eq-eqb, ne_eqb, inl, inr}
+use Rattle.std.proofs.Common.{◌≡◌, ◌≢◌, ℕ, suc, zero, ◌+◌, ◌<◌, ◌≤◌, Bool, true, false, ◌||◌, ◌==◌, List, [], ◌∷◌, ◌++◌, length, map, take, drop, get_or, refl, ap, ap₂, sym, ◌∙◌, subst, arith, append_assoc, eqb, eq-eqb, ne_eqb, inl, inr}
 use Rattle.std.proofs.lemmas.Bool.{cases_eq, eqb-true}
 use Rattle.std.proofs.lemmas.List.{append-nil}
 use Rattle.mope_base.specs.declared.body.Body.{Body}
@@ -170,3 +170,20 @@ written-dates number table (op ∷ ops) stamps h there =
           written-dates number table ops changed (subst (λ (b : Bool). (b || is_written ops table) ≡ true) (ne_eqb (op_table op) table other) h) within
           ∙ ap (written_at number) (changed-other (written_at number) stamps (op_table op) table no_stamps (ne_eqb (op_table op) table other))
     ]
+
+-- ---- one operation of a list after the other
+
+pub written-here : (ops : List Op) (i : ℕ) (op : Op) (table : ℕ) → i < length ops → op ≡ get_or ops i op → is_written (rank_ops (drop i ops)) table ≡ (eqb (op_table (rank_op op)) table || is_written (rank_ops (drop (i + 1) ops)) table)
+unfolding is_written rank_ops
+written-here [] i op table h is = absurd (omega (arith, h))
+written-here (x ∷ ops) zero op table h is = ap (λ (o : Op). eqb (op_table (rank_op o)) table || is_written (rank_ops ops) table) (sym is)
+written-here (x ∷ ops) (suc i) op table h is =
+    let next : suc i + 1 ≡ suc (i + 1) = omega arith in
+    written-here ops i op table (omega (arith, h)) is ∙ ap (λ (n : ℕ). eqb (op_table (rank_op op)) table || is_written (rank_ops (drop n (x ∷ ops))) table) (sym next)
+
+pub written-past : (ops : List Op) (i table : ℕ) → length ops ≤ i → is_written (rank_ops (drop i ops)) table ≡ false
+unfolding is_written rank_ops
+written-past [] zero table h = refl
+written-past [] (suc i) table h = refl
+written-past (x ∷ ops) zero table h = absurd (omega (arith, h))
+written-past (x ∷ ops) (suc i) table h = written-past ops i table (omega (arith, h))

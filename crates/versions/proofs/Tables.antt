@@ -1,5 +1,6 @@
 -- One table of the next version: as it was, or written, or laid.
-use Rattle.std.proofs.Common.{◌≡◌, ℕ, suc, ◌+◌, ◌<◌, Bool, true, false, List, [], ◌∷◌, ◌++◌, length, get_or, refl, ap, ap₂, sym, ◌∙◌, subst, arith, add-one, eqb, eq-eqb, ne_eqb}
+use Rattle.std.proofs.Common.{◌≡◌, ℕ, suc, ◌+◌, ◌<◌, Bool, true, false, List, [], ◌∷◌, ◌++◌, length, get_or, refl, ap, ap₂, sym, ◌∙◌, subst, arith, add-one, eqb, eq-eqb, ne_eqb, inl, inr}
+use Rattle.std.proofs.lemmas.Bool.{cases_eq}
 use Rattle.std.proofs.lemmas.List.{append-nil}
 use Rattle.mope_base.specs.declared.body.Body.{Body}
 use Rattle.tree_model.specs.Items.{change_at}
@@ -19,9 +20,6 @@ use Rattle.versions.specs.Operations.{with_ops, with_install, written_at, laid_a
 use Rattle.versions.proofs.Listed.{no-steps}
 use Rattle.versions.proofs.OpsOn.{unwritten, written-dates, changed-here, changed-other, ops-length}
 
-seen-with : (d : Database) (s : Shelf Body) (dates : Stamps) → Seen
-seen-with d s dates = record { shelf = s; same_time = d.same_time; limit = d.limit; stamps = dates; spent = false }
-
 -- ---- after operations
 
 pub stays-unwritten : (d : Database) (ops : List (RankOp Body)) (table : ℕ) → is_written ops table ≡ false → table_at d table ≡ table_at (with_ops ops d) table
@@ -38,13 +36,13 @@ nothing-listed d ops table changes h =
 
 pub written-is : (d : Database) (ops : List (RankOp Body)) (table : ℕ) (made : Seen) → is_written ops table ≡ true → table < length d.stamps → made ≡ with_shelf (shelf_at (rank_ops_on d.same_time ops d.shelves) table) (table_at d table)
     → with_stamps (record { written = d.number + 1; laid = made.stamps.laid }) made ≡ table_at (with_ops ops d) table
-unfolding table_at with_ops with_shelf with_stamps
+unfolding table_at with_ops with_shelf with_stamps written_at
 written-is d ops table made h there is =
     let s = shelf_at (rank_ops_on d.same_time ops d.shelves) table in
     let next : d.number + 1 ≡ suc d.number = add-one d.number in
     ap (λ (m : Seen). with_stamps (record { written = d.number + 1; laid = m.stamps.laid }) m) is
     ∙ ap (λ (dates : Stamps). let r : Seen = record { shelf = s; same_time = d.same_time; limit = d.limit; stamps = dates; spent = false } in r)
-      (ap (λ (n : ℕ). written_at n (stamps_at d.stamps table)) next ∙ sym (written-dates (suc d.number) table ops d.stamps h there))
+    (ap (λ (n : ℕ). written_at n (stamps_at d.stamps table)) next ∙ sym (written-dates (suc d.number) table ops d.stamps h there))
 
 -- ---- after an install
 
@@ -64,9 +62,9 @@ stays-unlaid d table column other h =
     (sym (changed-other (lay_column d.same_time column) d.shelves table other _ h))
     (sym (changed-other (laid_at (suc d.number)) d.stamps table other no_stamps h))
 
-pub steps-here : {B : Type 0} (table : ℕ) (steps : List (List (Operation B))) → steps_if (eqb table table) steps ≡ steps
+pub steps-if-true : {B : Type 0} (b : Bool) (steps : List (List (Operation B))) → b ≡ true → steps_if b steps ≡ steps
 unfolding steps_if
-steps-here table steps = rw (eq-eqb table table refl) refl
+steps-if-true b steps h = rw h refl
 
 pub steps-there : {B : Type 0} (b : Bool) (steps : List (List (Operation B))) → b ≡ false → steps_if b steps ≡ []
 unfolding steps_if
@@ -94,3 +92,6 @@ laid-shelves d table column = length-change_at (lay_column d.same_time column) d
 pub laid-stamps : (d : Database) (table column : ℕ) → length (with_install table column d).stamps ≡ length d.stamps
 unfolding with_install
 laid-stamps d table column = length-change_at (laid_at (suc d.number)) d.stamps table
+
+pub eqb-turned : (a b : ℕ) (r : Bool) → eqb a b ≡ r → eqb b a ≡ r
+eqb-turned a b r h = elim (cases_eq a b) [ inl same ↦ ap₂ eqb (sym same) same ∙ h | inr other ↦ ne_eqb b a (λ e. other (sym e)) ∙ sym (ne_eqb a b other) ∙ h ]

@@ -87,7 +87,14 @@ pub fn apply_rebuild(
     let mut tables = Vec::new(alloc);
     let mut changes = Vec::new(alloc);
     'tables: for at in 0..version.tables() {
-        let made = table_after(alloc, version, TableNo(at as u8), table, column, &mut changes)?;
+        let made = table_after(
+            alloc,
+            version,
+            TableNo(at as u8),
+            table,
+            column,
+            &mut changes,
+        )?;
         tables.push(made)?;
     }
     Ok((version.next(tables), Items::from_vec(changes)))

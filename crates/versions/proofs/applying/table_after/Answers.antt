@@ -1,16 +1,10 @@
-use Rattle.std.proofs.Common.{rules, ◌≡◌, ◌++◌, ◌<◌, ◌^◌, IfOk, OnOk, length, true, ℕ, ◌+◌, ◌-◌, ◌*◌, ◌≤◌, ◌/◌, ◌%◌, Bool, false, nat_eq, nat_lt, List, [], ◌∷◌, slice_index_or, slice_set, bit_and, bit_or, Fits, w8, w32, w64, Bor, MutBor}
-use Rattle.std.specs.Arc.{arc_value}
-use Rattle.table_model.specs.Operations.{ops_steps, shelf_at}
-use Rattle.versions.specs.Changes.{column_changes, ops_changes}
-use Rattle.versions.specs.Databases.{IsMember, table_at}
-use Rattle.versions.specs.Drafts.{is_written}
-use Rattle.versions.specs.Operations.{OpsFit, rank_ops, with_ops}
+use Rattle.std.proofs.Common.{◌∙◌, sym}
+use Rattle.versions.specs.Operations.{rank_ops}
+use Rattle.versions.proofs.Tables.{stays-unwritten, nothing-listed}
 use Rattle.versions.proofs.applying.table_after.Goals as goal
 
--- src/applying.rt:56:1
 pub returns-clause-value : goal.returns-clause-value
-returns-clause-value c = ?
+returns-clause-value c = c.in_ok-share-2.ensures.value ∙ stays-unwritten c.args.version.now (rank_ops c.args.ops.now) c.args.table.0 (sym c.if-is_written.ensures)
 
--- src/applying.rt:56:1
 pub returns-clause-changes : goal.returns-clause-changes
-returns-clause-changes c = ?
+returns-clause-changes c = nothing-listed c.args.version.now (rank_ops c.args.ops.now) c.args.table.0 c.args.changes.now.items (sym c.if-is_written.ensures)

@@ -52,13 +52,13 @@ returns-in_default-2 c =
 pub returns-in_ok-insert-in-Insert : goal.returns-in_ok-insert-in-Insert
 returns-in_ok-insert-in-Insert c =
     let asks = insert-asks c.args.version.now c.args.table.0 c.args.ops.now c.args.at c.in-Insert.named c.in-Insert.places c.in-Insert.bodies c.args.draft.now.table c.args.draft.now.log.items
-      (record { is = c.tables-database.ensures.database; fit = c.requires.fit; there = c.requires.there; within = c.requires.within; names = subst (λ (o : Op). o ≡ get_or c.args.ops.now c.args.at o) c.in-Insert.is c.index-ops-at.is; draft = c.requires.draft })
-      (sym c.eq.ensures ∙ c.if-eq.true) in
+    (record { is = c.tables-database.ensures.database; fit = c.requires.fit; there = c.requires.there; within = c.requires.within; names = subst (λ (o : Op). o ≡ get_or c.args.ops.now c.args.at o) c.in-Insert.is c.index-ops-at.is; draft = c.requires.draft })
+    (sym c.eq.ensures ∙ c.if-eq.true) in
     rw (c.in_ok-insert-in-Insert.ensures.table, c.in_ok-insert-in-Insert.ensures.log, c.as_slice.ensures, c.as_slice-in-Insert.ensures) asks.next
 
 pub returns-in_ok-delete-in-Delete : goal.returns-in_ok-delete-in-Delete
 returns-in_ok-delete-in-Delete c =
     let asks = delete-asks c.args.version.now c.args.table.0 c.args.ops.now c.args.at c.in-Delete.named c.in-Delete.rows c.args.draft.now.table c.args.draft.now.log.items
-      (record { is = c.tables-database.ensures.database; fit = c.requires.fit; there = c.requires.there; within = c.requires.within; names = subst (λ (o : Op). o ≡ get_or c.args.ops.now c.args.at o) c.in-Delete.is c.index-ops-at.is; draft = c.requires.draft })
-      (sym c.if-eq-2.ensures) in
+    (record { is = c.tables-database.ensures.database; fit = c.requires.fit; there = c.requires.there; within = c.requires.within; names = subst (λ (o : Op). o ≡ get_or c.args.ops.now c.args.at o) c.in-Delete.is c.index-ops-at.is; draft = c.requires.draft })
+    (sym c.if-eq-2.ensures) in
     rw (c.in_ok-delete-in-Delete.ensures.table, c.in_ok-delete-in-Delete.ensures.log, c.as_slice-in-Delete.ensures) asks.next

@@ -1,4 +1,4 @@
-use Rattle.std.proofs.Common.{refl, ap, sym, ◌∙◌, ◌++◌, List, ◌≡◌, []}
+use Rattle.std.proofs.Common.{false, true, refl, ap, sym, ◌∙◌, ◌++◌, List, ◌≡◌, []}
 use Rattle.std.proofs.lemmas.List.{append-nil}
 use Rattle.path_code.specs.Sums.{Sum}
 use Rattle.versions.specs.declared.change.ColumnChange.{ColumnChange}
@@ -14,4 +14,4 @@ returns-then-is_empty c =
 pub returns : goal.returns
 returns c =
     c.in_ok-push.ensures.items
-    ∙ ap (λ (l : List ColumnChange). c.args.changes.now.items ++ l) (sym (listed-changed c.args.table.0 c.args.column.0 c.args.summary (λ same. ?)))
+    ∙ ap (λ (l : List ColumnChange). c.args.changes.now.items ++ l) (sym (listed-changed c.args.table.0 c.args.column.0 c.args.summary (λ same. let h : false ≡ true = c.if-is_empty.ensures.1 same in cc h)))

@@ -9,3 +9,4 @@ pub mod DraftSteps
 pub mod DraftOps
 pub mod Listed
 pub mod Tables
+pub mod Computed

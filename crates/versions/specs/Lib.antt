@@ -7,3 +7,4 @@ pub mod Turns
 pub mod Newer
 pub mod Summed
 pub mod Drafts
+pub mod Examples

@@ -5,6 +5,7 @@ mod applying;
 mod change;
 mod composing;
 mod draft;
+pub mod examples;
 mod laying;
 mod listing;
 mod op;

@@ -24,3 +24,6 @@ pub use snapshot::{Ending, Snapshot};
 pub use summary::Summary;
 pub use turn::{Turn, TurnKind};
 pub use version::Version;
+
+#[cfg(test)]
+mod tests;

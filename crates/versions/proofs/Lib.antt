@@ -10,3 +10,4 @@ pub mod DraftOps
 pub mod Listed
 pub mod Tables
 pub mod Computed
+pub mod Trying

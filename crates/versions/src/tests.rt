@@ -6,7 +6,10 @@ ghost use Rattle.table_model.specs.Soundness.{column_at, kept_numbers};
 ghost use Rattle.tree_model.specs.Places.{holds};
 ghost use Rattle.tree_model.specs.Trees.{IsPlaceOf, size};
 
-use crate::{Body, ColNo, ColumnChange, Items, Mode, Op, OutOfMemory, Place, Snapshot, Stamps, Table, TableNo, Version, apply_ops, apply_rebuild};
+use crate::{
+    Body, ColNo, ColumnChange, Items, Mode, Op, OutOfMemory, Place, Snapshot, Stamps, Table,
+    TableNo, Version, apply_ops, apply_rebuild,
+};
 use path_code::Recode;
 use std::alloc::Global;
 
@@ -193,9 +196,17 @@ fn drop_last_duplicate(rt: HostRuntime) -> Result<(), OutOfMemory> {
         assert_eq!(rt; summary.moved().len(), 0);
         assert_eq!(rt; summary.dropped(), [0x8000_0000_0000_0000].as_slice());
         assert_eq!(rt; summary.added().len(), 0);
-        let table = version.table(TableNo(0)).expect(&rt, "a table and its column");
+        let table = version
+            .table(TableNo(0))
+            .expect(&rt, "a table and its column");
         assert_eq!(rt; table.rows(), 0);
-        assert_eq!(rt; table.stamps(), Stamps { written: 4, laid: 0 });
+        assert_eq!(rt;
+            table.stamps(),
+            Stamps {
+                written: 4,
+                laid: 0
+            }
+        );
         let tree = table.tree(ColNo(0)).expect(&rt, "a table and its column");
         assert_eq!(rt; tree.len(), 0);
         assert_eq!(rt; tree.max(), 0);
@@ -223,7 +234,13 @@ fn commit_across_install(rt: HostRuntime) -> Result<(), OutOfMemory> {
     assert_eq!(rt; added(&changes), [0xc000_0000_0000_0000].as_slice());
     assert_eq!(rt; version.number(), 4);
     let table = version.table(TableNo(0)).expect(&rt, "a table");
-    assert_eq!(rt; table.stamps(), Stamps { written: 4, laid: 3 });
+    assert_eq!(rt;
+        table.stamps(),
+        Stamps {
+            written: 4,
+            laid: 3
+        }
+    );
     assert_eq!(rt; table.code(1, ColNo(0)), Some(0x4000_0000_0000_0000));
     assert_eq!(rt; table.code(2, ColNo(0)), Some(0x8000_0000_0000_0000));
     assert_eq!(rt; table.code(3, ColNo(0)), Some(0xc000_0000_0000_0000));
@@ -262,13 +279,22 @@ fn snapshot_stays(rt: HostRuntime) -> Result<(), OutOfMemory> {
     }
     let version = lay(rt.alloc(), &version)?.0;
     assert_eq!(rt; version.number(), 15);
-    let at_first = Stamps { written: 3, laid: 0 };
+    let at_first = Stamps {
+        written: 3,
+        laid: 0,
+    };
     let at_last = Stamps {
         written: 14,
         laid: 15,
     };
-    assert_eq!(rt; told(snapshot.version()), Some((3, 0x8000_0000_0000_0000, at_first)));
-    assert_eq!(rt; told(second.version()), Some((3, 0x8000_0000_0000_0000, at_first)));
+    assert_eq!(rt;
+        told(snapshot.version()),
+        Some((3, 0x8000_0000_0000_0000, at_first))
+    );
+    assert_eq!(rt;
+        told(second.version()),
+        Some((3, 0x8000_0000_0000_0000, at_first))
+    );
     assert_eq!(rt; told(&version), Some((13, 0x1000_0000_0000_0000, at_last)));
     assert_eq!(rt; snapshot.version().number(), 3);
     assert_eq!(rt; snapshot.version().tables(), 1);
@@ -286,22 +312,15 @@ fn balanced_stays(rt: HostRuntime) -> Result<(), OutOfMemory> {
     assert_eq!(rt; laid.number(), 2);
     assert_eq!(rt;
         told(&laid),
-        Some((1, 0x8000_0000_0000_0000, Stamps { written: 1, laid: 2 }))
+        Some((
+            1,
+            0x8000_0000_0000_0000,
+            Stamps {
+                written: 1,
+                laid: 2
+            }
+        ))
     );
     assert!(rt; laid.table(TableNo(1)).is_none());
-    Ok(())
-}
-
-/// A value that threads may share and hand on.
-fn shared_by_threads<T: Send + Sync>(_value: &T) {}
-
-// Threads share versions.
-#[test]
-fn versions_are_shared(rt: HostRuntime) -> Result<(), OutOfMemory> {
-    let first = Version::first(rt.alloc(), &[1, 8], Mode::Ordinary, LIMIT)?;
-    shared_by_threads(&first);
-    let snapshot = Version::share(rt.alloc(), first)?;
-    shared_by_threads(&snapshot);
-    assert_eq!(rt; snapshot.version().tables(), 2);
     Ok(())
 }

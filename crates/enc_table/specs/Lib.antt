@@ -1,0 +1,5 @@
+-- The definitions that the contracts of this crate and of those above it cite.
+pub mod Seen
+pub mod Rows
+pub mod Sums
+pub mod Stored

@@ -1,0 +1,13 @@
+//! The server's tables of sealed rows.
+#![tactic(auto)]
+
+mod cell;
+mod columns;
+mod stamps;
+mod stop;
+mod table;
+
+pub use cell::Cell;
+pub use stamps::Stamps;
+pub use stop::TableStop;
+pub use table::Table;

@@ -1,0 +1,130 @@
+//! The rows of a query in its order.
+ghost use Rattle.column_index.specs.Entries.{precedes, sorted};
+ghost use Rattle.column_index.specs.Seen.{index_of};
+ghost use Rattle.enc_table.specs.Rows.{index_at};
+ghost use Rattle.sql_plan.specs.Plans.{HasBounds, HasOrder, rows_found};
+ghost use Rattle.sql_plan.specs.Walks.{IsSpan, key_by, key_of, keyed, keyed_rows, rows_of, within};
+ghost use Rattle.std.specs.Ordering.{is_lt};
+ghost use Rattle.std.specs.Prelude.{◌≡◌, ◌<◌, ◌≤◌, List, [], IfOk, None, ℕ, length, take};
+ghost use Rattle.table_model.specs.Soundness.{kept_numbers};
+ghost use Rattle.workload.specs.Selection.{first_of};
+
+use crate::bounds::Query;
+use crate::spans::span;
+use crate::walking::{code_of, entry_within};
+use column_index::{Entry, Index};
+use enc_table::Table;
+use mope_base::{ColNo, OutOfMemory};
+use std::alloc::Global;
+use std::cmp::Ordering;
+
+/// How an entry stands to another: by code, and by row where the codes are equal.
+fn compared(a: &Entry, b: &Entry) -> Ordering
+    ensures { is_lt result ≡ precedes a.now b.now }
+{
+    a.enc.cmp(&b.enc).then(a.row.cmp(&b.row))
+}
+
+/// The entries in order.
+fn in_order(mut entries: Vec<Entry>) -> Result<Vec<Entry>, OutOfMemory>
+    ensures { IfOk result (λ ordered. ordered.items ≡ sorted entries.items) }
+{
+    entries.sort_by(compared)?;
+    Ok(entries)
+}
+
+/// What a row is put in order by.
+fn key_of(table: &Table, order: Option<(ColNo, bool)>, row: u64) -> u64
+    ensures { result ≡ key_of table.now.shelf order row }
+{
+    match order {
+        Some((column, true)) => u64::MAX - code_of(table, column, row),
+        Some((column, false)) => code_of(table, column, row),
+        None => 0,
+    }
+}
+
+/// The entries of the rows within all bounds, each with what it is put in order by in the place of its code.
+fn collect(
+    alloc: Global,
+    table: &Table,
+    index: &Index,
+    query: &Query,
+    places: (usize, usize),
+) -> Result<Vec<Entry>, OutOfMemory>
+    requires { IsSpan table.now.shelf query.now.bounds index.now.entries places.0 places.1 }
+    ensures { IfOk result (λ found. found.items ≡ keyed_rows table.now.shelf query.now.order (within table.now.shelf query.now.bounds index.now.entries)) }
+{
+    let (first, end) = places;
+    let bounds = query.bounds.as_slice();
+    let mut found = Vec::new(alloc);
+    'places: for place in first..end {
+        if let Some(Entry { enc: _, row }) = entry_within(table, index, bounds, place) {
+            let enc = key_of(table, query.order, row);
+            found.push(Entry { enc, row })?;
+        }
+    }
+    Ok(found)
+}
+
+/// How many of so many are under a limit.
+fn kept_of(limit: Option<u64>, count: usize) -> usize
+    ensures few { result ≤ count }
+    ensures cut { (xs : List ℕ) → length xs ≡ count → take result xs ≡ first_of limit xs }
+{
+    match limit {
+        Some(limit) if limit < count as u64 => limit as usize,
+        _ => count,
+    }
+}
+
+/// The rows of the first entries that are under a limit.
+fn cut(alloc: Global, entries: &[Entry], limit: Option<u64>) -> Result<Vec<u64>, OutOfMemory>
+    ensures { IfOk result (λ rows. rows.items ≡ first_of limit (rows_of entries.now)) }
+{
+    let count = kept_of(limit, entries.len());
+    let rows = entries[..count]
+        .iter()
+        .map(|entry| entry.row)
+        .collect(alloc)?;
+    Ok(rows)
+}
+
+/// The rows of a query, by the index of a column.
+pub(crate) fn rows_by(
+    alloc: Global,
+    table: &Table,
+    query: &Query,
+    column: ColNo,
+) -> Result<Vec<u64>, OutOfMemory>
+    requires there { column.0 < length table.now.shelf.columns }
+    requires bounds { HasBounds table.now.shelf query.now.bounds }
+    requires order { HasOrder table.now.shelf query.now.order }
+    ensures { IfOk result (λ rows. rows.items ≡ rows_found table.now.shelf query.now) }
+{
+    let Some(index) = table.index(column) else {
+        return Err(OutOfMemory);
+    };
+    let places = span(table, index, query.bounds.as_slice(), column);
+    let found = collect(alloc, table, index, query, places)?;
+    let ordered = in_order(found)?;
+    cut(alloc, &ordered, query.limit)
+}
+
+/// The numbers of the first rows of a table that are under a limit.
+pub(crate) fn first_rows(
+    alloc: Global,
+    table: &Table,
+    limit: Option<u64>,
+) -> Result<Vec<u64>, OutOfMemory>
+    ensures { IfOk result (λ rows. rows.items ≡ first_of limit (kept_numbers table.now.shelf.kept)) }
+{
+    let count = kept_of(limit, table.rows());
+    let mut rows = Vec::new(alloc);
+    'pages: while rows.len() < count {
+        let page = table.numbers_from(rows.len());
+        let part = page.len().min(count - rows.len());
+        rows.extend_from_slice(&page[..part])?;
+    }
+    Ok(rows)
+}

@@ -1,23 +1,19 @@
 -- Walks through an index: rows told by their numbers, the part of an index in which rows can be, and entries that tell an order.
-use Rattle.std.specs.Prelude.{◌≡◌, ℕ, ◌+◌, ◌-◌, ◌<◌, ◌≤◌, Bool, true, false, ◌==◌, max, min, List, [], ◌∷◌, length, map, filter, take, drop, get_or, slice_get, Option, Some, None}
+use Rattle.std.specs.Prelude.{◌≡◌, ℕ, ◌+◌, ◌-◌, ◌<◌, ◌≤◌, Bool, true, false, not, ◌==◌, max, min, List, [], ◌∷◌, length, map, filter, take, drop, get_or, slice_get, Option, Some, None}
+use Rattle.std.specs.Option.{unwrap_or}
 use Rattle.mope_base.specs.declared.body.Body.{Body}
 use Rattle.mope_base.specs.declared.numbers.ColNo.{ColNo}
 use Rattle.table_model.specs.Stores.{Shelf}
 use Rattle.column_index.specs.declared.entry.Entry.{Entry}
-use Rattle.column_index.specs.Entries.{sorted}
+use Rattle.column_index.specs.Entries.{precedes, sorted}
 use Rattle.enc_table.specs.Rows.{code_at}
 use Rattle.workload.specs.Selection.{passes}
 use Rattle.sql_plan.specs.declared.bounds.Bound.{Bound}
 use Rattle.sql_plan.specs.Bounds.{top, as_test}
 
--- 0, which is no code, for none
-unfoldable pub or_zero : Option ℕ → ℕ
-or_zero None = 0
-or_zero (Some code) = code
-
--- a row that is told by its number, read by codes
+-- a row that is told by its number, read by codes; 0, which is no code, where there is no such row
 unfoldable pub by_number : Shelf Body → ColNo → ℕ → ℕ
-by_number s column number = or_zero (code_at number column.0 s)
+by_number s column number = unwrap_or (code_at number column.0 s) 0
 
 unfoldable pub is_within : Shelf Body → List Bound → ℕ → Bool
 is_within s bounds number = passes (by_number s) (map as_test bounds) number
@@ -75,3 +71,7 @@ turned entries = map (λ (e : Entry). record { enc = top - e.enc; row = e.row })
 -- the first of the entries within the bounds that have the greatest code: told by its row
 unfoldable pub greatest_row : Shelf Body → List Bound → List Entry → Option ℕ
 greatest_row s bounds entries = slice_get (rows_of (sorted (turned (within s bounds entries)))) 0
+
+-- one entry doesn't stand after the other
+unfoldable pub up_to : Entry → Entry → Bool
+up_to e x = not (precedes x e)

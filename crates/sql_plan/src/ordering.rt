@@ -1,11 +1,11 @@
 //! The rows of a query in its order.
-ghost use Rattle.column_index.specs.Entries.{precedes, sorted};
-ghost use Rattle.column_index.specs.Seen.{index_of};
-ghost use Rattle.enc_table.specs.Rows.{index_at};
+ghost use Rattle.column_index.specs.Entries.{sorted};
+ghost use Rattle.column_index.specs.declared.entry.Entry.{Entry};
+ghost use Rattle.std.specs.Option.{option_to_list};
 ghost use Rattle.sql_plan.specs.Plans.{HasBounds, HasOrder, rows_found};
-ghost use Rattle.sql_plan.specs.Walks.{IsSpan, key_by, key_of, keyed, keyed_rows, rows_of, within};
+ghost use Rattle.sql_plan.specs.Walks.{IsSpan, key_by, key_of, keyed, keyed_rows, rows_of, up_to, within};
 ghost use Rattle.std.specs.Ordering.{is_lt};
-ghost use Rattle.std.specs.Prelude.{◌≡◌, ◌<◌, ◌≤◌, List, [], IfOk, None, ℕ, length, take};
+ghost use Rattle.std.specs.Prelude.{◌≡◌, ◌<◌, ◌≤◌, List, ◌++◌, IfOk, OnOk, ℕ, length, map, not, take};
 ghost use Rattle.table_model.specs.Soundness.{kept_numbers};
 ghost use Rattle.workload.specs.Selection.{first_of};
 
@@ -20,7 +20,7 @@ use std::cmp::Ordering;
 
 /// How an entry stands to another: by code, and by row where the codes are equal.
 fn compared(a: &Entry, b: &Entry) -> Ordering
-    ensures { is_lt result ≡ precedes a.now b.now }
+    ensures { is_lt result ≡ not (up_to b.now a.now) }
 {
     a.enc.cmp(&b.enc).then(a.row.cmp(&b.row))
 }
@@ -33,15 +33,41 @@ fn in_order(mut entries: Vec<Entry>) -> Result<Vec<Entry>, OutOfMemory>
     Ok(entries)
 }
 
+/// A code turned round, where the order goes downwards.
+fn key_by(down: bool, code: u64) -> u64
+    ensures { result ≡ key_by down code }
+{
+    if down { u64::MAX - code } else { code }
+}
+
 /// What a row is put in order by.
 fn key_of(table: &Table, order: Option<(ColNo, bool)>, row: u64) -> u64
     ensures { result ≡ key_of table.now.shelf order row }
 {
     match order {
-        Some((column, true)) => u64::MAX - code_of(table, column, row),
-        Some((column, false)) => code_of(table, column, row),
+        Some((column, down)) => key_by(down, code_of(table, column, row)),
         None => 0,
     }
+}
+
+/// Adds an entry, with what its row is put in order by in the place of its code.
+fn push_keyed(
+    found: &mut Vec<Entry>,
+    table: &Table,
+    order: Option<(ColNo, bool)>,
+    entry: Option<Entry>,
+) -> Result<(), OutOfMemory>
+    ensures { OnOk result (found.new.items ≡ found.old.items ++ keyed_rows table.now.shelf order (option_to_list entry)) }
+{
+    let Some(entry) = entry else {
+        return Ok(());
+    };
+    let enc = key_of(table, order, entry.row);
+    found.push(Entry {
+        enc,
+        row: entry.row,
+    })?;
+    Ok(())
 }
 
 /// The entries of the rows within all bounds, each with what it is put in order by in the place of its code.
@@ -59,10 +85,8 @@ fn collect(
     let bounds = query.bounds.as_slice();
     let mut found = Vec::new(alloc);
     'places: for place in first..end {
-        if let Some(Entry { enc: _, row }) = entry_within(table, index, bounds, place) {
-            let enc = key_of(table, query.order, row);
-            found.push(Entry { enc, row })?;
-        }
+        let entry = entry_within(table, index, bounds, place);
+        push_keyed(&mut found, table, query.order, entry)?;
     }
     Ok(found)
 }
@@ -78,15 +102,20 @@ fn kept_of(limit: Option<u64>, count: usize) -> usize
     }
 }
 
+/// The rows of entries.
+fn rows_in(alloc: Global, entries: &[Entry]) -> Result<Vec<u64>, OutOfMemory>
+    ensures { IfOk result (λ rows. rows.items ≡ map (λ (e : Entry). e.row) entries.now) }
+{
+    let rows = entries.iter().map(|entry| entry.row).collect(alloc)?;
+    Ok(rows)
+}
+
 /// The rows of the first entries that are under a limit.
 fn cut(alloc: Global, entries: &[Entry], limit: Option<u64>) -> Result<Vec<u64>, OutOfMemory>
     ensures { IfOk result (λ rows. rows.items ≡ first_of limit (rows_of entries.now)) }
 {
     let count = kept_of(limit, entries.len());
-    let rows = entries[..count]
-        .iter()
-        .map(|entry| entry.row)
-        .collect(alloc)?;
+    let rows = rows_in(alloc, &entries[..count])?;
     Ok(rows)
 }
 
@@ -108,7 +137,16 @@ pub(crate) fn rows_by(
     let places = span(table, index, query.bounds.as_slice(), column);
     let found = collect(alloc, table, index, query, places)?;
     let ordered = in_order(found)?;
-    cut(alloc, &ordered, query.limit)
+    let rows = cut(alloc, &ordered, query.limit)?;
+    Ok(rows)
+}
+
+/// Adds the rows of a page.
+fn push_rows(rows: &mut Vec<u64>, page: &[u64]) -> Result<(), OutOfMemory>
+    ensures { OnOk result (rows.new.items ≡ rows.old.items ++ page.now) }
+{
+    rows.extend_from_slice(page)?;
+    Ok(())
 }
 
 /// The numbers of the first rows of a table that are under a limit.
@@ -124,7 +162,7 @@ pub(crate) fn first_rows(
     'pages: while rows.len() < count {
         let page = table.numbers_from(rows.len());
         let part = page.len().min(count - rows.len());
-        rows.extend_from_slice(&page[..part])?;
+        push_rows(&mut rows, &page[..part])?;
     }
     Ok(rows)
 }

@@ -22,6 +22,25 @@ fn count_one(table: &Table, bound: &Bound) -> u64
     }
 }
 
+/// The place of the first bound with the fewest rows.
+fn fewest_at(table: &Table, bounds: &[Bound]) -> usize
+    requires some { 0 < length bounds.now }
+    requires there { HasBounds table.now.shelf bounds.now }
+    ensures inside { result < length bounds.now }
+    ensures least { IsFirstLeast (passing_counts table.now.shelf bounds.now) result }
+{
+    let mut fewest = count_one(table, &bounds[0]);
+    let mut best = 0;
+    'bounds: for place in 1..bounds.len() {
+        let count = count_one(table, &bounds[place]);
+        if count < fewest {
+            fewest = count;
+            best = place;
+        }
+    }
+    best
+}
+
 /// The place of the bound with the fewest rows, the first of such: `None` exactly where there are no bounds. The bounds' columns
 /// must be there. It looks at no row: each bound costs two searches in an index.
 pub fn choose(table: &Table, query: &Query) -> Option<usize>
@@ -31,16 +50,10 @@ pub fn choose(table: &Table, query: &Query) -> Option<usize>
         (λ place. IsFirstLeast (passing_counts table.now.shelf query.now.bounds) place) }
 {
     let bounds = query.bounds.as_slice();
-    let mut fewest = count_one(table, bounds.first()?);
-    let mut best = 0;
-    'bounds: for place in 1..bounds.len() {
-        let count = count_one(table, &bounds[place]);
-        if count < fewest {
-            fewest = count;
-            best = place;
-        }
+    if bounds.is_empty() {
+        return None;
     }
-    Some(best)
+    Some(fewest_at(table, bounds))
 }
 
 /// The column by whose index the rows of a query are found: that of the chosen bound, or without bounds that of the order.
@@ -51,12 +64,14 @@ fn column_by(table: &Table, query: &Query) -> Option<ColNo>
     ensures bounds { result ≡ None → query.now.bounds ≡ [] }
     ensures order { result ≡ None → query.now.order ≡ None }
 {
-    match choose(table, query) {
-        Some(place) => Some(query.bounds.as_slice()[place].column),
-        None => match query.order {
-            Some((column, _)) => Some(column),
-            None => None,
-        },
+    let bounds = query.bounds.as_slice();
+    if !bounds.is_empty() {
+        let place = fewest_at(table, bounds);
+        return Some(bounds[place].column);
+    }
+    match query.order {
+        Some((column, _)) => Some(column),
+        None => None,
     }
 }
 
@@ -67,11 +82,16 @@ pub fn rows(alloc: Global, table: &Table, query: &Query) -> Result<Items<u64>, O
     requires order { HasOrder table.now.shelf query.now.order }
     ensures { IfOk result (λ numbers. numbers ≡ rows_found table.now.shelf query.now) }
 {
-    let numbers = match column_by(table, query) {
-        Some(column) => rows_by(alloc, table, query, column)?,
-        None => first_rows(alloc, table, query.limit)?,
-    };
-    Ok(Items::from_vec(numbers))
+    match column_by(table, query) {
+        Some(column) => {
+            let numbers = rows_by(alloc, table, query, column)?;
+            Ok(Items::from_vec(numbers))
+        }
+        None => {
+            let numbers = first_rows(alloc, table, query.limit)?;
+            Ok(Items::from_vec(numbers))
+        }
+    }
 }
 
 /// How many rows are within bounds on several columns, by a walk through the index of one of them.
@@ -96,14 +116,15 @@ pub fn count(table: &Table, query: &Query) -> u64
     ensures { result ≡ length (passing table.now.shelf query.now.bounds) }
 {
     let bounds = query.bounds.as_slice();
-    match bounds.first() {
-        None => table.rows() as u64,
-        Some(first) if all_on(bounds, first.column) => count_on(table, bounds, first.column),
-        Some(first) => {
-            let place = choose(table, query).unwrap_or(0);
-            count_by(table, bounds, bounds[place].column)
-        }
+    if bounds.is_empty() {
+        return table.rows() as u64;
     }
+    let column = bounds[0].column;
+    if all_on(bounds, column) {
+        return count_on(table, bounds, column);
+    }
+    let place = fewest_at(table, bounds);
+    count_by(table, bounds, bounds[place].column)
 }
 
 /// Of the rows within the bounds the number of the one with the least code in a column, or the greatest, and the lowest number
@@ -114,12 +135,15 @@ pub fn extreme(table: &Table, query: &Query, column: ColNo, greatest: bool) -> O
     ensures { result ≡ extreme_found table.now.shelf query.now.bounds column greatest }
 {
     let bounds = query.bounds.as_slice();
-    let index = table.index(column)?;
+    let Some(index) = table.index(column) else {
+        return None;
+    };
     let (first, end) = span(table, index, bounds, column);
     if greatest {
-        greatest_in(table, index, bounds, first, end)
-    } else {
-        let entry = first_from(table, index, bounds, first, end)?;
-        Some(entry.row)
+        return greatest_in(table, index, bounds, first, end);
+    }
+    match first_from(table, index, bounds, first, end) {
+        Some(entry) => Some(entry.row),
+        None => None,
     }
 }

@@ -1,4 +1,5 @@
 //! Walks through a column's index, by the rows that are within all bounds.
+ghost use Rattle.column_index.specs.Entries.{IsOrdered};
 ghost use Rattle.column_index.specs.declared.entry.Entry.{Entry};
 ghost use Rattle.sql_plan.specs.Bounds.{as_test, top};
 ghost use Rattle.sql_plan.specs.Walks.{IsLastWithin, IsSpan, by_number, greatest_row, is_within, within};
@@ -128,10 +129,15 @@ pub(crate) fn greatest_in(
 ) -> Option<u64>
     requires span { IsSpan table.now.shelf bounds.now index.now.entries first end }
     requires codes { All (λ (e : Entry). e.enc ≤ top) index.now.entries }
+    requires ordered { IsOrdered index.now.entries }
     ensures { result ≡ greatest_row table.now.shelf bounds.now index.now.entries }
 {
-    let last = last_before(table, index, bounds, first, end)?;
+    let Some(last) = last_before(table, index, bounds, first, end) else {
+        return None;
+    };
     let (start, _) = index.range(last.enc, last.enc);
-    let entry = first_from(table, index, bounds, start, end)?;
-    Some(entry.row)
+    match first_from(table, index, bounds, start, end) {
+        Some(entry) => Some(entry.row),
+        None => None,
+    }
 }

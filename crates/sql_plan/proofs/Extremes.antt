@@ -106,6 +106,9 @@ module _ (s : Shelf Body) (bounds : List Bound) (entries : List Entry) (end star
   code_there : (get_or entries l.place no_entry).enc ≡ last.enc
   code_there = ap (λ (e : Entry). e.enc) (at_place no_entry)
 
+  pub last-top : All (λ (e : Entry). e.enc ≤ top) entries → last.enc ≤ top
+  last-top codes = let fits = codes l.place no_entry has_place in omega (arith, code_there)
+
   pub start-low : start ≤ l.place
   start-low =
       elim (cases_lt l.place start) [

@@ -10,3 +10,7 @@ pub mod Extremes
 pub mod EntryOrder
 pub mod Choosing
 pub mod Pages
+pub mod Answering
+pub mod TestBounds
+pub mod ValueRows
+pub mod ValuePlans

@@ -82,13 +82,15 @@ Weak-put e [] weak = rw (put-nothing e) (All-nil (λ (y : Entry). precedes y e �
 Weak-put e (x ∷ xs) weak =
     elim (cases_Bool (precedes e x)) [
       | inl first ↦
-          rw (put-first e x xs first)
-          (All-cons (λ (y : Entry). precedes y e ≡ false) x xs (precedes-asym e x first)
-          (λ k d lt.
-            elim (cases_Bool (precedes (get_or xs k d) e)) [
-              | inl back ↦ absurd (let f : true ≡ false = sym (precedes-trans (get_or xs k d) e x back first) ∙ weak.0 k d lt in cc)
-              | inr no' ↦ no'
-            ]), weak)
+          rw (put-first e x xs first) (
+            All-cons (λ (y : Entry). precedes y e ≡ false) x xs (precedes-asym e x first)
+                (λ k d lt.
+                elim (cases_Bool (precedes (get_or xs k d) e)) [
+                  | inl back ↦ absurd (let f : true ≡ false = sym (precedes-trans (get_or xs k d) e x back first) ∙ weak.0 k d lt in cc)
+                  | inr no' ↦ no'
+                ]),
+            weak,
+          )
       | inr later ↦ rw (put-later e x xs later) (All-put (λ (y : Entry). precedes y x ≡ false) e xs later weak.0, Weak-put e xs weak.1)
     ]
 

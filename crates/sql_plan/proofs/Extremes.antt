@@ -51,12 +51,12 @@ turned-first xs e ys fits lower same =
     (sorted-first (map turn xs) (turn e) (map turn ys)
     (All-map P turn xs (λ k d lt. let less = lower k d lt in precedes-true (turn e) (turn (get_or xs k d)) (inl (omega arith))))
     (All-map P turn ys (λ k d lt.
-      let both = same k d lt in
-      precedes-true (turn e) (turn (get_or ys k d))
-      (elim (Before-of e (get_or ys k d) both.0) [
-        | inl less ↦ absurd (omega (arith, both.1, less))
-        | inr at ↦ inr (ap (λ (code : ℕ). top - code) (sym both.1), at.1)
-      ]))))
+    let both = same k d lt in
+    precedes-true (turn e) (turn (get_or ys k d))
+    (elim (Before-of e (get_or ys k d) both.0) [
+      | inl less ↦ absurd (omega (arith, both.1, less))
+      | inr at ↦ inr (ap (λ (code : ℕ). top - code) (sym both.1), at.1)
+    ]))))
 
 first-of : (code : ℕ) → code ≤ top → (xs ws : List Entry) (e : Entry) → All (λ (x : Entry). x.enc < code) xs → All (λ (x : Entry). x.enc ≡ code) ws → IsOrdered ws → slice_get ws 0 ≡ Some e
     → slice_get (rows_of (sorted (turned (xs ++ ws)))) 0 ≡ Some e.row
@@ -151,18 +151,18 @@ module _ (s : Shelf Body) (bounds : List Bound) (entries : List Entry) (end star
       (within-cut n (drop start entries) (ap (within s bounds) rest ∙ l.after))
       (All-filter (λ (e : Entry). is_within s bounds e.row) same_code (take n (drop start entries))
       (λ k d lt.
-        let few : k < n = omega (arith, length-take n (drop start entries), lt) in
-        let from = r.from (start + k) d (omega arith) (omega arith) in
-        let to = r.to (start + k) d (omega arith) (omega arith) in
-        subst same_code (sym (get_or-take n (drop start entries) k d few ∙ get_or-drop start entries k d)) (omega arith)))
+      let few : k < n = omega (arith, length-take n (drop start entries), lt) in
+      let from = r.from (start + k) d (omega arith) (omega arith) in
+      let to = r.to (start + k) d (omega arith) (omega arith) in
+      subst same_code (sym (get_or-take n (drop start entries) k d few ∙ get_or-drop start entries k d)) (omega arith)))
 
   lower-codes : All (λ (e : Entry). e.enc < last.enc) (within s bounds (take start entries))
   unfolding within
   lower-codes =
       All-filter (λ (e : Entry). is_within s bounds e.row) (λ (e : Entry). e.enc < last.enc) (take start entries)
       (λ k d lt.
-        let few : k < start = omega (arith, length-take start entries, lt) in
-        subst (λ (e : Entry). e.enc < last.enc) (sym (get_or-take start entries k d few)) (r.before k d (omega arith) few))
+      let few : k < start = omega (arith, length-take start entries, lt) in
+      subst (λ (e : Entry). e.enc < last.enc) (sym (get_or-take start entries k d few)) (r.before k d (omega arith) few))
 
   split-at : within s bounds entries ≡ within s bounds (take start entries) ++ within s bounds (drop start entries)
   split-at = ap (within s bounds) (sym (take-append-drop start entries)) ∙ within-append s bounds (take start entries) (drop start entries)
@@ -181,10 +181,10 @@ module _ (s : Shelf Body) (bounds : List Bound) (entries : List Entry) (end star
       let low = start-low in
       let rest : drop n (drop start entries) ≡ drop l.place entries = drop-drop start n entries ∙ ap (λ (m : ℕ). drop m entries) (omega arith) in
       let tail : within s bounds (drop l.place entries) ≡ last ∷ [] =
-          within-drop s bounds entries l.place has_place
-          ∙ ap₂ (λ (o : Option Entry) (es : List Entry). within s bounds (option_to_list o) ++ es) l.here l.after
-          ∙ append-nil (within s bounds (last ∷ [])) ∙ one-within in
+      within-drop s bounds entries l.place has_place
+      ∙ ap₂ (λ (o : Option Entry) (es : List Entry). within s bounds (option_to_list o) ++ es) l.here l.after
+      ∙ append-nil (within s bounds (last ∷ [])) ∙ one-within in
       let whole : within s bounds (drop start entries) ≡ within s bounds (take n (drop start entries)) ++ last ∷ [] =
-          ap (within s bounds) (sym (take-append-drop n (drop start entries))) ∙ within-append s bounds (take n (drop start entries)) (drop n (drop start entries))
-          ∙ ap (λ (es : List Entry). within s bounds (take n (drop start entries)) ++ es) (ap (within s bounds) rest ∙ tail) in
+      ap (within s bounds) (sym (take-append-drop n (drop start entries))) ∙ within-append s bounds (take n (drop start entries)) (drop n (drop start entries))
+      ∙ ap (λ (es : List Entry). within s bounds (take n (drop start entries)) ++ es) (ap (within s bounds) rest ∙ tail) in
       last-there (within s bounds (take n (drop start entries))) last (sym (ap (λ (es : List Entry). slice_get es 0) whole) ∙ none)

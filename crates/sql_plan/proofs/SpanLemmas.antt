@@ -91,15 +91,15 @@ module _ (s : Shelf Body) (facts : Facts s) (column : ColNo) (there : column.0 <
         inside = r.within;
         before = filter-none (λ (e : Entry). is_within s bounds e.row) (take first es)
             (λ k d lt.
-              let few : k < first = omega (arith, length-take first es, lt) in
-              let in' : k < length es = omega (arith, length-take first es, lt) in
-              subst outside (sym (get_or-take first es k d few))
-              (outside-of (get_or es k d) (told k d in') (λ from to. omega (arith, r.before k d (omega arith) few))));
+            let few : k < first = omega (arith, length-take first es, lt) in
+            let in' : k < length es = omega (arith, length-take first es, lt) in
+            subst outside (sym (get_or-take first es k d few))
+            (outside-of (get_or es k d) (told k d in') (λ from to. omega (arith, r.before k d (omega arith) few))));
         after = filter-none (λ (e : Entry). is_within s bounds e.row) (drop end es)
             (λ k d lt.
-              let in' : end + k < length es = omega (arith, length-drop end es, lt) in
-              subst outside (sym (get_or-drop end es k d))
-              (outside-of (get_or es (end + k) d) (told (end + k) d in') (λ from to. omega (arith, r.after (end + k) d (omega arith) in'))));
+            let in' : end + k < length es = omega (arith, length-drop end es, lt) in
+            subst outside (sym (get_or-drop end es k d))
+            (outside-of (get_or es (end + k) d) (told (end + k) d in') (λ from to. omega (arith, r.after (end + k) d (omega arith) in'))));
       }
 
   entries-of : (index : Seen) → index ≡ index_of (index_at column.0 s) → index.entries ≡ index_at column.0 s
@@ -145,19 +145,19 @@ narrowed-exact : (b : Bound) (ends : ℕ × ℕ) (x : ℕ) → holds_code b x &&
 narrowed-exact b ends x =
     both_ways (holds_code b x && (nat_le ends.0 x && nat_le x ends.1)) (nat_le (max b.lo ends.0) x && nat_le x (min b.hi ends.1))
     (λ h.
-      let parts = and_parts (holds_code b x) (nat_le ends.0 x && nat_le x ends.1) h in
-      let own = holds-facts b x parts.0 in
-      let rest = and_parts (nat_le ends.0 x) (nat_le x ends.1) parts.1 in
-      and_from (nat_le (max b.lo ends.0) x) (nat_le x (min b.hi ends.1))
-      (le-leb (max b.lo ends.0) x (omega (arith, own.0, leb-true ends.0 x rest.0)))
-      (le-leb x (min b.hi ends.1) (omega (arith, own.1, leb-true x ends.1 rest.1))))
+    let parts = and_parts (holds_code b x) (nat_le ends.0 x && nat_le x ends.1) h in
+    let own = holds-facts b x parts.0 in
+    let rest = and_parts (nat_le ends.0 x) (nat_le x ends.1) parts.1 in
+    and_from (nat_le (max b.lo ends.0) x) (nat_le x (min b.hi ends.1))
+    (le-leb (max b.lo ends.0) x (omega (arith, own.0, leb-true ends.0 x rest.0)))
+    (le-leb x (min b.hi ends.1) (omega (arith, own.1, leb-true x ends.1 rest.1))))
     (λ h.
-      let parts = and_parts (nat_le (max b.lo ends.0) x) (nat_le x (min b.hi ends.1)) h in
-      let low = leb-true (max b.lo ends.0) x parts.0 in
-      let high = leb-true x (min b.hi ends.1) parts.1 in
-      and_from (holds_code b x) (nat_le ends.0 x && nat_le x ends.1)
-      (and_from (nat_le b.lo x) (nat_le x b.hi) (le-leb b.lo x (omega arith)) (le-leb x b.hi (omega arith)))
-      (and_from (nat_le ends.0 x) (nat_le x ends.1) (le-leb ends.0 x (omega arith)) (le-leb x ends.1 (omega arith))))
+    let parts = and_parts (nat_le (max b.lo ends.0) x) (nat_le x (min b.hi ends.1)) h in
+    let low = leb-true (max b.lo ends.0) x parts.0 in
+    let high = leb-true x (min b.hi ends.1) parts.1 in
+    and_from (holds_code b x) (nat_le ends.0 x && nat_le x ends.1)
+    (and_from (nat_le b.lo x) (nat_le x b.hi) (le-leb b.lo x (omega arith)) (le-leb x b.hi (omega arith)))
+    (and_from (nat_le ends.0 x) (nat_le x ends.1) (le-leb ends.0 x (omega arith)) (le-leb x ends.1 (omega arith))))
 
 pub ends-exact : (s : Shelf Body) (column : ColNo) (bounds : List Bound) (number : ℕ) → by_number s column number ≤ top → All (λ (b : Bound). b.column.0 ≡ column.0) bounds
     → is_within s bounds number ≡ nat_le (ends_in column bounds).0 (by_number s column number) && nat_le (by_number s column number) (ends_in column bounds).1
@@ -184,10 +184,10 @@ module _ (s : Shelf Body) (facts : Facts s) (column : ColNo) (there : column.0 <
       let high = (ends_in column bounds).1 in
       counted low high es
       ∙ ap length (filter-same (λ (e : Entry). is_within s bounds e.row) (λ (e : Entry). nat_le low e.enc && nat_le e.enc high) es
-        (λ k d lt.
-          let e = get_or es k d in
-          sym (ends-exact s column bounds e.row (by_number-top s facts column e.row there) on
-          ∙ ap (λ (code : ℕ). nat_le low code && nat_le code high) (told-entries s facts column there k d lt))))
+      (λ k d lt.
+      let e = get_or es k d in
+      sym (ends-exact s column bounds e.row (by_number-top s facts column e.row there) on
+      ∙ ap (λ (code : ℕ). nat_le low code && nat_le code high) (told-entries s facts column there k d lt))))
 
   pub count-one : (b : Bound) → b.column.0 ≡ column.0 → count_between b.lo b.hi (index_at column.0 s) ≡ length (within s (b ∷ []) (index_at column.0 s))
   unfolding within
@@ -195,11 +195,11 @@ module _ (s : Shelf Body) (facts : Facts s) (column : ColNo) (there : column.0 <
       let es = index_at column.0 s in
       counted b.lo b.hi es
       ∙ ap length (filter-same (λ (e : Entry). is_within s (b ∷ []) e.row) (λ (e : Entry). nat_le b.lo e.enc && nat_le e.enc b.hi) es
-        (λ k d lt.
-          let e = get_or es k d in
-          sym (is_within-cons s b [] e.row
-          ∙ ap₂ (λ (code : ℕ) (rest : Bool). holds_code b code && rest) (by_number-column s b.column column e.row on ∙ told-entries s facts column there k d lt) (is_within-nothing s e.row)
-          ∙ and_true (holds_code b e.enc))))
+      (λ k d lt.
+      let e = get_or es k d in
+      sym (is_within-cons s b [] e.row
+      ∙ ap₂ (λ (code : ℕ) (rest : Bool). holds_code b code && rest) (by_number-column s b.column column e.row on ∙ told-entries s facts column there k d lt) (is_within-nothing s e.row)
+      ∙ and_true (holds_code b e.enc))))
 
   pub count-on-found : (bounds : List Bound) → All (λ (b : Bound). b.column.0 ≡ column.0) bounds → (index : Seen) → index ≡ index_of (index_at column.0 s) → (ends : ℕ × ℕ) → ends ≡ ends_in column bounds
       → count_between ends.0 ends.1 index.entries ≡ length (passing s bounds)

@@ -37,12 +37,7 @@ fn ends_in(column: ColNo, bounds: &[Bound]) -> (u64, u64)
 }
 
 /// Between which places of a column's index the rows within all bounds stand, by the bounds on that column.
-pub(crate) fn span(
-    table: &Table,
-    index: &Index,
-    bounds: &[Bound],
-    column: ColNo,
-) -> (usize, usize)
+pub(crate) fn span(table: &Table, index: &Index, bounds: &[Bound], column: ColNo) -> (usize, usize)
     requires there { column.0 < length table.now.shelf.columns }
     requires own { index.now ≡ index_of (index_at column.0 table.now.shelf) }
     ensures { IsSpan table.now.shelf bounds.now index.now.entries result.0 result.1 }

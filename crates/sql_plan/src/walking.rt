@@ -40,7 +40,12 @@ fn is_within(table: &Table, bounds: &[Bound], row: u64) -> bool
 }
 
 /// The entry at a place of an index, if its row is within all bounds.
-pub(crate) fn entry_within(table: &Table, index: &Index, bounds: &[Bound], place: usize) -> Option<Entry>
+pub(crate) fn entry_within(
+    table: &Table,
+    index: &Index,
+    bounds: &[Bound],
+    place: usize,
+) -> Option<Entry>
     ensures { option_to_list result ≡ within table.now.shelf bounds.now (option_to_list (slice_get index.now.entries place)) }
 {
     match index.at(place) {

@@ -19,7 +19,7 @@ places-preserved c =
     let read = option_to_list c.entry_within-entry.result in
     let lt : c.places.place < length es = omega (arith, c.requires.inside) in
     let stands : read ≡ within s c.args.query.now.bounds (option_to_list (slice_get es c.places.place)) =
-        c.entry_within-entry.ensures ∙ ap (λ (bs : List Bound). within s bs (option_to_list (slice_get es c.places.place))) c.as_slice-bounds.ensures in
+    c.entry_within-entry.ensures ∙ ap (λ (bs : List Bound). within s bs (option_to_list (slice_get es c.places.place))) c.as_slice-bounds.ensures in
     c.in_ok-push_keyed.ensures ∙ ap (λ (xs : List Entry). xs ++ keys read) c.places.invariant
     ∙ sym (ap keys (take-more s c.args.query.now.bounds es c.places.place read lt stands) ∙ keyed-append s c.args.query.now.order (within s c.args.query.now.bounds (take c.places.place es)) read)
 

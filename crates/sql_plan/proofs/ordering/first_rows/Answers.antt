@@ -19,7 +19,7 @@ pages-preserved c =
     let run = c.numbers_from-page.ensures.run ∙ ap (λ (k : ℕ). take (length page) (drop k numbers)) c.len-in-pages.ensures in
     let added = c.in_ok-push_rows.ensures ∙ page-more numbers c.pages.rows.items page n part c.pages.invariant.so_far run (omega (arith, c.min-part.ensures)) in
     let long : vec_len c.push_rows.new.rows ≡ n + part =
-        omega (arith, c.push_rows.new.rows.ok.0, c.pages.rows.ok.0, ap length c.in_ok-push_rows.ensures, length-append c.pages.rows.items (take part page), length-take-le part page (omega (arith, c.min-part.ensures))) in
+    omega (arith, c.push_rows.new.rows.ok.0, c.pages.rows.ok.0, ap length c.in_ok-push_rows.ensures, length-append c.pages.rows.items (take part page), length-take-le part page (omega (arith, c.min-part.ensures))) in
     record { few = omega (arith, long, c.min-part.ensures, c.len-in-pages-2.ensures, c.pages.invariant.few); so_far = added ∙ ap (λ (k : ℕ). take k numbers) (sym long) }
 
 pub returns : goal.returns

@@ -13,7 +13,8 @@ use Rattle.workload.specs.declared.script.Verb.TheVariants as verb
 use Rattle.workload.specs.Run.{names}
 use Rattle.workload.specs.Transaction.{table_named}
 use Rattle.proxy.specs.Tasks.{Task, opens, looks, puts_row, asks, closes, rebuilds}
-use Rattle.proxy.specs.Client.{Setting, Stop, Client}
+use Rattle.proxy.specs.declared.doing.Stop.{Stop}
+use Rattle.proxy.specs.Client.{Client}
 
 -- some bytes give the reply
 unfoldable pub is_spelled : Reply → Bool

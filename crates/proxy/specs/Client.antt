@@ -20,6 +20,7 @@ use Rattle.workload.specs.declared.script.End.TheVariants as end
 use Rattle.workload.specs.declared.script.Piece.{Piece}
 use Rattle.workload.specs.declared.script.Verb.{Verb}
 use Rattle.workload.specs.declared.script.Verb.TheVariants as verb
+use Rattle.proxy.specs.declared.doing.Stop.{Stop}
 use Rattle.proxy.specs.Tasks.{Task, opens, looks, puts_row, asks, closes, rebuilds, tasks_of, asked_of}
 
 -- what stays for a whole session: the key, the first nonce of all sessions, and the session's number
@@ -27,11 +28,6 @@ pub record Setting : Type 0 where
   pub key : List ℕ
   pub first : ℕ
   pub session : SessionNo
-
--- where a walk stands: after so many steps down, at an item of this value
-pub record Stop : Type 0 where
-  pub steps : ℕ
-  pub value : ℕ
 
 -- a client between two exchanges: the tasks that are left of its transaction, the one in hand first (none where its script has
 -- ended); where its walk stands; how many values it has sealed; the version that the transaction began from; the answers so far;

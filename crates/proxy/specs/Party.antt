@@ -110,15 +110,13 @@ said finished = Some step.Done
 said (stuck want got) = Some (step.Strange want got)
 said spent = None
 
--- a call fits where the proxy stands: the first has no reply, and one after a request has the reply to it
-abbrev pub Awaits : Phase → Option Reply → Type 0
-Awaits fresh None = Unit {0}
-Awaits fresh (Some got) = ⊥
-Awaits (waits request) None = ⊥
-Awaits (waits request) (Some got) = Unit {0}
-Awaits finished got = Unit {0}
-Awaits (stuck want bad) got = Unit {0}
-Awaits spent got = Unit {0}
+-- a proxy has sent what its client wants, and has finished where its client wants nothing
+abbrev pub IsDue : Phase → Setting → Client → Type 0
+IsDue fresh s c = Unit {0}
+IsDue (waits request) s c = wants s c ≡ Some request
+IsDue finished s c = HasEnded s c
+IsDue (stuck want got) s c = Unit {0}
+IsDue spent s c = Unit {0}
 
 -- a proxy has finished over a log: all its replies are allowed, and by them every transaction of the script has ended
 pub record Finishes (p : Party) (log : List Exchange) (f : Finished) : Type 0 where

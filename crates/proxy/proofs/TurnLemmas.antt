@@ -17,7 +17,7 @@ use Rattle.proxy.specs.declared.turning.Stage.TheVariants as stage
 use Rattle.proxy.specs.Allowed.{allowed}
 use Rattle.proxy.specs.Client.{Setting, Client, wants, hears, first_request, request_for}
 use Rattle.proxy.specs.Inside.{party_by, phase_in, Holds, IsRunning}
-use Rattle.proxy.specs.Party.{Party, Phase, fresh, waits, finished, stuck, spent, told, told_by, said, noted, wanted, heard_if, going_on, phase_for}
+use Rattle.proxy.specs.Party.{Party, Phase, fresh, waits, finished, stuck, spent, told, told_by, said, noted, wanted, heard_if, going_on, phase_for, IsDue}
 use Rattle.proxy.specs.Standing.{Fits, Heard, SameSession, setting_in, setting_by, client_in, tasks_left, acts_at, piece_of}
 use Rattle.proxy.specs.Tasks.{Task, acts_of, last_task}
 
@@ -166,3 +166,33 @@ runs_stuck s want got is = subst IsRunning (sym is) tt
 -- new places for pads change nothing that is seen
 pub reserved : (d : Dialogue) (pads : List ℕ) → pads ≡ d.pads → (let e : Dialogue = record d { pads = pads } in e) ≡ d
 reserved d pads same = ap (λ (k : List ℕ). let e : Dialogue = record d { pads = k } in e) same
+
+-- what is said is due
+due_for : (w : Option Request) (s : Setting) (c : Client) → wants s c ≡ w → IsDue (phase_for w) s c
+unfolding phase_for
+due_for None s c is = is
+due_for (Some r) s c is = is
+
+pub due_by : (st : Stage) (s : Setting) (c : Client) → IsDue (phase_in st (wants s c)) s c
+unfolding phase_in
+due_by stage.Fresh s c = tt
+due_by stage.Talking s c = due_for (wants s c) s c refl
+due_by (stage.Stuck want got) s c = tt
+due_by stage.Spent s c = tt
+
+-- a proxy that is spent stays so
+pub told_spent : (p : Party) (got : Option Reply) → p.phase ≡ spent → (told got p).phase ≡ spent
+unfolding told told_by
+told_spent p got is = ap (λ (x : Phase). (told_by x got p).phase) is ∙ is
+
+not_spent_for : (w : Option Request) → phase_for w ≡ spent → ⊥
+unfolding phase_for
+not_spent_for None is = cc
+not_spent_for (Some r) is = cc
+
+pub not_spent : (st : Stage) (w : Option Request) → IsRunning st → phase_in st w ≡ spent → ⊥
+unfolding phase_in IsRunning
+not_spent stage.Fresh w runs is = runs
+not_spent stage.Talking w runs is = not_spent_for w is
+not_spent (stage.Stuck want got) w runs is = cc
+not_spent stage.Spent w runs is = runs

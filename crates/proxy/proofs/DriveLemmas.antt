@@ -4,10 +4,14 @@ use Rattle.std.proofs.lemmas.Bool.{cases_Bool, ltb-true, and_parts}
 use Rattle.walk_proto.specs.declared.messages.Exchange.{Exchange}
 use Rattle.walk_proto.specs.declared.messages.Reply.{Reply}
 use Rattle.walk_proto.specs.declared.messages.Request.{Request}
+use Rattle.proxy.specs.declared.outcomes.Driven.TheVariants as driven
+use Rattle.proxy.specs.declared.outcomes.Finished.{Finished}
+use Rattle.proxy.specs.declared.outcomes.Step.{Step}
+use Rattle.proxy.specs.declared.outcomes.Step.TheVariants as step
 use Rattle.proxy.specs.declared.outcomes.Want.{Want}
 use Rattle.proxy.specs.Allowed.{allowed}
 use Rattle.proxy.specs.Client.{Setting, Client, wants, hears}
-use Rattle.proxy.specs.Party.{Party, Phase, fresh, waits, finished, stuck, spent, told, told_by, noted, noted_all, wanted, heard_if, going_on, phase_for, IsDue, Stops}
+use Rattle.proxy.specs.Party.{Party, Phase, fresh, waits, finished, stuck, spent, told, told_by, noted, noted_all, wanted, heard_if, going_on, phase_for, IsDue, Stops, said, DrivenOver}
 use Rattle.proxy.specs.Talk.{Talk, AllAllowed, client_after, HasEnded}
 
 abbrev pub one : Request → Reply → Exchange
@@ -53,3 +57,145 @@ Comes (waits r) p q log = Along p q log × (wants p.setting (client_after p.sett
 Comes finished p q log = Along p q log × HasEnded p.setting (client_after p.setting p.client log)
 Comes (stuck want got) p q log = Talk p.setting p.client log × ((p.phase ≡ stuck want got × log ≡ []) ⊎ Stops p log want got)
 Comes spent p q log = ⊥
+
+-- a reply takes a proxy on
+along_more : (p q : Party) (log : List Exchange) (r : Request) (got : Reply) → Along p q log → wants p.setting (client_after p.setting p.client log) ≡ Some r
+    → allowed q.client got ≡ true
+    → Along p (going_on (record q { client = hears q.setting q.client got; log = noted q.keep q.log (one r got) })) (log ++ one r got ∷ [])
+unfolding going_on
+along_more p q log r got along is ok = record {
+  setting = along.setting;
+  keep = along.keep;
+  talk = talk_more p.setting p.client log r got along.talk is;
+  allows = allowed_more p.setting p.client log r got along.allows (ap (λ (c : Client). allowed c got) (sym along.client) ∙ ok);
+  client =
+    ap (λ (s : Setting). hears s q.client got) along.setting
+    ∙ ap (λ (c : Client). hears p.setting c got) along.client
+    ∙ sym (after_more p.setting p.client log r got);
+  kept =
+    ap (λ (b : Bool). noted b q.log (one r got)) along.keep
+    ∙ ap (λ (l : List Exchange). noted p.keep l (one r got)) along.kept
+    ∙ sym (noted_more p.keep p.log log (one r got));
+}
+
+comes_on : (w : Option Request) (p q : Party) (log : List Exchange) → Along p q log → wants q.setting q.client ≡ w → Comes (phase_for w) p q log
+unfolding Comes phase_for
+comes_on None p q log along is = (along, ap (λ (s : Setting). wants s (client_after p.setting p.client log)) (sym along.setting) ∙ ap (wants q.setting) (sym along.client) ∙ is)
+comes_on (Some r) p q log along is = (along, ap (λ (s : Setting). wants s (client_after p.setting p.client log)) (sym along.setting) ∙ ap (wants q.setting) (sym along.client) ∙ is)
+
+comes_if : (b : Bool) (p q : Party) (log : List Exchange) (r : Request) (got : Reply) → allowed q.client got ≡ b → Along p q log
+    → wants p.setting (client_after p.setting p.client log) ≡ Some r → Comes (heard_if b r got q).phase p (heard_if b r got q) (log ++ one r got ∷ [])
+unfolding heard_if Comes going_on
+comes_if true p q log r got ok along is =
+    comes_on (wants q.setting (hears q.setting q.client got)) p
+    (going_on (record q { client = hears q.setting q.client got; log = noted q.keep q.log (one r got) })) (log ++ one r got ∷ [])
+    (along_more p q log r got along is ok) refl
+comes_if false p q log r got refused along is = (
+  talk_more p.setting p.client log r got along.talk is,
+  inr (record {
+    before = log;
+    request = r;
+    last = refl;
+    allows = along.allows;
+    refuses = ap (λ (c : Client). allowed c got) (sym along.client) ∙ refused;
+    wants = ap wanted along.client;
+  }),
+)
+
+-- the next exchange
+pub comes_next : (p q : Party) (log : List Exchange) (r : Request) (got : Reply) → q.phase ≡ waits r → Comes q.phase p q log
+    → Comes (told (Some got) q).phase p (told (Some got) q) (log ++ one r got ∷ [])
+unfolding told told_by Comes
+comes_next p q log r got is comes =
+    let here = subst (λ (x : Phase). Comes x p q log) is comes in
+    subst (λ (x : Phase). Comes (told_by x (Some got) q).phase p (told_by x (Some got) q) (log ++ one r got ∷ [])) (sym is)
+    (comes_if (allowed q.client got) p q log r got refl here.0 here.1)
+
+-- the talk up to now
+comes_talk : (x : Phase) (p q : Party) (log : List Exchange) → Comes x p q log → Talk p.setting p.client log
+unfolding Comes
+comes_talk fresh p q log comes = absurd comes
+comes_talk (waits r) p q log comes = comes.0.talk
+comes_talk finished p q log comes = comes.0.talk
+comes_talk (stuck want got) p q log comes = comes.0
+comes_talk spent p q log comes = absurd comes
+
+pub talk_of : (p q : Party) (log : List Exchange) → Comes q.phase p q log → Talk p.setting p.client log
+talk_of p q log comes = comes_talk q.phase p q log comes
+
+pub talk_next : (p q : Party) (log : List Exchange) (r : Request) (got : Reply) → q.phase ≡ waits r → Comes q.phase p q log
+    → Talk p.setting p.client (log ++ one r got ∷ [])
+talk_next p q log r got is comes = talk_of p (told (Some got) q) (log ++ one r got ∷ []) (comes_next p q log r got is comes)
+
+-- where a proxy begins
+along_start : (p : Party) (x : Phase) → Along p (record p { phase = x }) []
+unfolding Talk AllAllowed client_after noted_all
+along_start p x = record { setting = refl; keep = refl; talk = tt; allows = tt; client = refl; kept = refl }
+
+comes_from : (x : Phase) (p : Party) (st : Step) → p.phase ≡ x → said (told_by x None p).phase ≡ Some st
+    → IsDue (told_by x None p).phase (told_by x None p).setting (told_by x None p).client → Comes (told_by x None p).phase p (told_by x None p) []
+unfolding told_by going_on
+comes_from fresh p st is says due =
+    comes_on (wants p.setting p.client) p (record p { phase = phase_for (wants p.setting p.client) }) [] (along_start p (phase_for (wants p.setting p.client))) refl
+comes_from (waits r) p st is says due =
+    let here : Comes (waits r) p p [] = unfold Comes in unfold client_after in (along_start p p.phase, subst (λ (x : Phase). IsDue x p.setting p.client) is due) in
+    subst (λ (x : Phase). Comes x p p []) (sym is) here
+comes_from finished p st is says due =
+    let here : Comes finished p p [] = unfold Comes in unfold client_after in (along_start p p.phase, subst (λ (x : Phase). IsDue x p.setting p.client) is due) in
+    subst (λ (x : Phase). Comes x p p []) (sym is) here
+comes_from (stuck want got) p st is says due =
+    let here : Comes (stuck want got) p p [] = unfold Comes in unfold Talk in (tt, inl (is, refl)) in
+    subst (λ (x : Phase). Comes x p p []) (sym is) here
+comes_from spent p st is says due =
+    absurd (let e : None ≡ Some st = unfold said in (sym (ap said is) ∙ says) in cc)
+
+pub comes_first : (p : Party) (st : Step) → said (told None p).phase ≡ Some st → IsDue (told None p).phase (told None p).setting (told None p).client
+    → Comes (told None p).phase p (told None p) []
+unfolding told
+comes_first p st says due = comes_from p.phase p st refl says due
+
+-- what was said tells where a proxy stands
+pub said_sends : (x : Phase) (r : Request) → said x ≡ Some (step.Send r) → x ≡ waits r
+unfolding said
+said_sends fresh r is = cc
+said_sends (waits q) r is = cc
+said_sends finished r is = cc
+said_sends (stuck want got) r is = cc
+said_sends spent r is = cc
+
+pub said_ends : (x : Phase) → said x ≡ Some step.Done → x ≡ finished
+unfolding said
+said_ends fresh is = cc
+said_ends (waits q) is = cc
+said_ends finished is = refl
+said_ends (stuck want got) is = cc
+said_ends spent is = cc
+
+pub said_stops : (x : Phase) (want : Want) (got : Reply) → said x ≡ Some (step.Strange want got) → x ≡ stuck want got
+unfolding said
+said_stops fresh want got is = cc
+said_stops (waits q) want got is = cc
+said_stops finished want got is = cc
+said_stops (stuck w g) want got is = cc
+said_stops spent want got is = cc
+
+pub driven_to_end : (p q : Party) (log : List Exchange) (f : Finished) → said q.phase ≡ Some step.Done → Comes q.phase p q log
+    → f.txns ≡ q.client.done → f.log ≡ q.log → DrivenOver p log (driven.Finished f)
+unfolding DrivenOver Comes
+driven_to_end p q log f is comes txns kept =
+    let here = subst (λ (x : Phase). Comes x p q log) (said_ends q.phase is) comes in
+    record {
+      allows = here.0.allows;
+      ended = here.1;
+      transactions = txns ∙ ap (λ (c : Client). c.done) here.0.client;
+      kept = kept ∙ here.0.kept;
+    }
+
+pub driven_to_stop : (p q : Party) (log : List Exchange) (want : Want) (got : Reply) → said q.phase ≡ Some (step.Strange want got) → Comes q.phase p q log
+    → DrivenOver p log (driven.Strange want got)
+unfolding DrivenOver Comes
+driven_to_stop p q log want got is comes = (subst (λ (x : Phase). Comes x p q log) (said_stops q.phase want got is) comes).1
+
+-- how much is left to do
+pub work_in : Party → ℕ
+work_in p = 0

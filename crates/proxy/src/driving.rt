@@ -1,15 +1,14 @@
 //! A proxy driven over a link.
 
-ghost use Rattle.std.specs.Prelude.{◌≡◌, ◌++◌, ◌∷◌, [], List, Some, IfOk, OnErr};
+ghost use Rattle.std.specs.Prelude.{◌≡◌, ◌++◌, ◌∷◌, [], List, IfOk};
 ghost use Rattle.walk_proto.specs.declared.messages.Exchange.{Exchange};
-ghost use Rattle.walk_proto.specs.declared.messages.Reply.{Reply as ReplyOf};
-ghost use Rattle.proxy.specs.Party.{told, said, DrivenOver};
+ghost use Rattle.proxy.specs.Party.{DrivenOver};
 ghost use Rattle.proxy.specs.Talk.{Talk};
 
 use crate::client::Proxy;
 use crate::outcomes::{Driven, Step};
 use mope_base::OutOfMemory;
-use walk_proto::{Link, Request};
+use walk_proto::Link;
 
 /// Drives a proxy over a link from where it stands, until its script has ended or a reply is strange. What it adds to the
 /// link's exchanges is a log whose requests are the client's; on `OutOfMemory` too.
@@ -19,13 +18,14 @@ pub fn drive<L: Link>(proxy: Proxy, link: &mut L) -> Result<Driven, OutOfMemory>
 {
     let mut proxy = proxy;
     let mut step = proxy.next(None)?;
-    'exchanges: while let Step::Send(request) = step {
-        let reply = link.exchange(&request)?;
-        step = proxy.next(Some(&reply))?;
-    }
-    match step {
-        Step::Send(_) => Err(OutOfMemory),
-        Step::Done => Ok(Driven::Finished(proxy.finish())),
-        Step::Strange { want, got } => Ok(Driven::Strange { want, got }),
+    'exchanges: loop {
+        match step {
+            Step::Send(request) => {
+                let reply = link.exchange(&request)?;
+                step = proxy.next(Some(&reply))?;
+            }
+            Step::Done => return Ok(Driven::Finished(proxy.finish())),
+            Step::Strange { want, got } => return Ok(Driven::Strange { want, got }),
+        }
     }
 }

@@ -108,11 +108,11 @@ pub heard_ended : (d e : Dialogue) (x : End) (how : How) (table number : ℕ) (r
     → x ≡ end_told (rolls_back (piece_of d)) how table number → r ≡ reply.Ended how table number → Fits d → Heard d e r
 heard_ended d e x how table number r ends tasks x_is r_is fits = record {
   client =
-    ends.client
-    ∙ ap (λ (c : Client). ending (setting_in d) x c) (no_more_sealed d)
-    ∙ ap (λ (y : End). ending (setting_in d) y (client_in d)) x_is
-    ∙ heard_end d how table number tasks
-    ∙ ap (λ (q : Reply). hears (setting_in d) (client_in d) q) (sym r_is);
+      ends.client
+      ∙ ap (λ (c : Client). ending (setting_in d) x c) (no_more_sealed d)
+      ∙ ap (λ (y : End). ending (setting_in d) y (client_in d)) x_is
+      ∙ heard_end d how table number tasks
+      ∙ ap (λ (q : Reply). hears (setting_in d) (client_in d) q) (sym r_is);
   session = ends.session;
   fits = fits_ended d e x 0 ends (omega arith) fits;
 }
@@ -122,10 +122,10 @@ pub statement_reads : (d : Dialogue) (a : Act) → statement_in d ≡ Some a →
 unfolding statement_in
 statement_reads d a some =
     elim (cases_lt d.act (length (acts_of (piece_of d)))) [
-      inl low ↦
-        let e : Some (get_or (acts_of (piece_of d)) d.act a) ≡ Some a = sym (first_of-drop (acts_of (piece_of d)) d.act a low) ∙ some in
-        record { piece_is = refl; acts_are = refl; within = low; is = cc }
-    | inr high ↦ absurd (let e : None ≡ Some a = sym (first_of-past (acts_of (piece_of d)) d.act high) ∙ some in cc)
+      | inl low ↦
+          let e : Some (get_or (acts_of (piece_of d)) d.act a) ≡ Some a = sym (first_of-drop (acts_of (piece_of d)) d.act a low) ∙ some in
+          record { piece_is = refl; acts_are = refl; within = low; is = cc }
+      | inr high ↦ absurd (let e : None ≡ Some a = sym (first_of-past (acts_of (piece_of d)) d.act high) ∙ some in cc)
     ]
 
 -- a row as the statement in hand
@@ -179,10 +179,10 @@ heard_row d e t count number r answers is row r_is fits =
     let many = found.2 in
     record {
       client =
-        answers.client ∙ answered_is d answer.Inserted count is
-        ∙ ap (λ (n : ℕ). answering answer.Inserted (acts_then (drop (d.act + 1) (acts_of (piece_of d))) (closing_of d)) (let c : Client = record (client_in d) { seals = (client_in d).seals + n } in c)) (sym many)
-        ∙ sym (hears_first (setting_in d) (client_in d) (reply.Count number) _ _ (tasks_read d (act.Insert t found.0) is reads))
-        ∙ ap (λ (q : Reply). hears (setting_in d) (client_in d) q) (sym r_is);
+          answers.client ∙ answered_is d answer.Inserted count is
+          ∙ ap (λ (n : ℕ). answering answer.Inserted (acts_then (drop (d.act + 1) (acts_of (piece_of d))) (closing_of d)) (let c : Client = record (client_in d) { seals = (client_in d).seals + n } in c)) (sym many)
+          ∙ sym (hears_first (setting_in d) (client_in d) (reply.Count number) _ _ (tasks_read d (act.Insert t found.0) is reads))
+          ∙ ap (λ (q : Reply). hears (setting_in d) (client_in d) q) (sym r_is);
       session = answers.session;
       fits = fits_answered d e answer.Inserted count answers (placed_acting d is fits) (omega (arith, left, many)) fits;
     }
@@ -198,10 +198,10 @@ heard_full d e t count code value r ends is row r_is fits =
     let own = ap inserted_numbers reads.is in
     record {
       client =
-        ends.client
-        ∙ ap (λ (n : ℕ). ending (setting_in d) (end.Full t) (let c : Client = record (client_in d) { seals = d.seals + n } in c)) (sym many)
-        ∙ sym (hears_first (setting_in d) (client_in d) (reply.No code value) _ _ (tasks_read d (act.Insert t found.0) is reads))
-        ∙ ap (λ (q : Reply). hears (setting_in d) (client_in d) q) (sym r_is);
+          ends.client
+          ∙ ap (λ (n : ℕ). ending (setting_in d) (end.Full t) (let c : Client = record (client_in d) { seals = d.seals + n } in c)) (sym many)
+          ∙ sym (hears_first (setting_in d) (client_in d) (reply.No code value) _ _ (tasks_read d (act.Insert t found.0) is reads))
+          ∙ ap (λ (q : Reply). hears (setting_in d) (client_in d) q) (sym r_is);
       session = ends.session;
       fits = fits_ended d e (end.Full t) count ends (omega (arith, step, own, many)) fits;
     }
@@ -243,11 +243,11 @@ heard_answer d e pads p acts a ask x r answers pads_are is reads asks gives fits
     let none : d.seals + 0 ≡ d.seals = omega arith in
     record {
       client =
-        answers.client ∙ answered_is d x 0 is
-        ∙ ap (λ (n : ℕ). answering x (acts_then (drop (d.act + 1) (acts_of (piece_of d))) (closing_of d)) (let c : Client = record (client_in d) { seals = n } in c)) none
-        ∙ ap (λ (o : Option Answer). with_answer o (acts_then (drop (d.act + 1) (acts_of (piece_of d))) (closing_of d)) (client_in d)) gives
-        ∙ sym (ap (λ (y : Act). heard_by (setting_in d) (does y) (acts_then (drop (d.act + 1) (acts_of (piece_of d))) (closing_of d)) r (client_in d)) asks)
-        ∙ sym (hears_first (setting_in d) (client_in d) r _ _ (tasks_read d a is here));
+          answers.client ∙ answered_is d x 0 is
+          ∙ ap (λ (n : ℕ). answering x (acts_then (drop (d.act + 1) (acts_of (piece_of d))) (closing_of d)) (let c : Client = record (client_in d) { seals = n } in c)) none
+          ∙ ap (λ (o : Option Answer). with_answer o (acts_then (drop (d.act + 1) (acts_of (piece_of d))) (closing_of d)) (client_in d)) gives
+          ∙ sym (ap (λ (y : Act). heard_by (setting_in d) (does y) (acts_then (drop (d.act + 1) (acts_of (piece_of d))) (closing_of d)) r (client_in d)) asks)
+          ∙ sym (hears_first (setting_in d) (client_in d) r _ _ (tasks_read d a is here));
       session = same;
       fits = fits_answered d e x 0 own (placed_acting d is fits) (omega (arith, left)) fits;
     }
@@ -260,9 +260,9 @@ no_answer d pads p acts a ask r pads_are is reads asks none fits =
     let here : Reads d (piece_of d) (acts_of (piece_of d)) a = statement_reads d a (statement_is d p acts a reads) in
     record {
       client =
-        ap (λ (o : Option Answer). with_answer o (acts_then (drop (d.act + 1) (acts_of (piece_of d))) (closing_of d)) (client_in d)) none
-        ∙ sym (ap (λ (y : Act). heard_by (setting_in d) (does y) (acts_then (drop (d.act + 1) (acts_of (piece_of d))) (closing_of d)) r (client_in d)) asks)
-        ∙ sym (hears_first (setting_in d) (client_in d) r _ _ (tasks_read d a is here));
+          ap (λ (o : Option Answer). with_answer o (acts_then (drop (d.act + 1) (acts_of (piece_of d))) (closing_of d)) (client_in d)) none
+          ∙ sym (ap (λ (y : Act). heard_by (setting_in d) (does y) (acts_then (drop (d.act + 1) (acts_of (piece_of d))) (closing_of d)) r (client_in d)) asks)
+          ∙ sym (hears_first (setting_in d) (client_in d) r _ _ (tasks_read d a is here));
       session = record { pads = pads_are; first = refl; session = refl; script = refl };
       fits = fits_kept d (record d { pads = pads }) (record { pads = pads_are; first = refl; session = refl; script = refl }) refl (placed_acting d is fits) (omega arith) fits;
     }

@@ -41,8 +41,8 @@ constant-none t i past = first_of-past (constants_in t) i (omega (arith, length-
 pub constant-few : (t : Test) (i c : ℕ) → Some c ≡ first_of (drop i (constants_in t)) → i ≤ 1
 constant-few t i c here =
     elim (cases_lt i 2) [
-      inl low ↦ omega (arith, low)
-    | inr high ↦ absurd (let e : Some c ≡ None = here ∙ constant-none t i high in cc)
+      | inl low ↦ omega (arith, low)
+      | inr high ↦ absurd (let e : Some c ≡ None = here ∙ constant-none t i high in cc)
     ]
 
 pub length-constant : (t : Test) → length (constants_in t) ≤ 2

@@ -12,6 +12,7 @@ use Rattle.proxy.specs.declared.outcomes.Want.{Want}
 use Rattle.proxy.specs.Allowed.{allowed}
 use Rattle.proxy.specs.Client.{Setting, Client, wants, hears}
 use Rattle.proxy.specs.Party.{Party, Phase, fresh, waits, finished, stuck, spent, told, told_by, noted, noted_all, wanted, heard_if, going_on, phase_for, IsDue, Stops, said, DrivenOver}
+use Rattle.proxy.proofs.WorkLemmas.{client_work, hears_less}
 use Rattle.proxy.specs.Talk.{Talk, AllAllowed, client_after, HasEnded}
 
 abbrev pub one : Request → Reply → Exchange
@@ -69,13 +70,13 @@ along_more p q log r got along is ok = record {
   talk = talk_more p.setting p.client log r got along.talk is;
   allows = allowed_more p.setting p.client log r got along.allows (ap (λ (c : Client). allowed c got) (sym along.client) ∙ ok);
   client =
-    ap (λ (s : Setting). hears s q.client got) along.setting
-    ∙ ap (λ (c : Client). hears p.setting c got) along.client
-    ∙ sym (after_more p.setting p.client log r got);
+      ap (λ (s : Setting). hears s q.client got) along.setting
+      ∙ ap (λ (c : Client). hears p.setting c got) along.client
+      ∙ sym (after_more p.setting p.client log r got);
   kept =
-    ap (λ (b : Bool). noted b q.log (one r got)) along.keep
-    ∙ ap (λ (l : List Exchange). noted p.keep l (one r got)) along.kept
-    ∙ sym (noted_more p.keep p.log log (one r got));
+      ap (λ (b : Bool). noted b q.log (one r got)) along.keep
+      ∙ ap (λ (l : List Exchange). noted p.keep l (one r got)) along.kept
+      ∙ sym (noted_more p.keep p.log log (one r got));
 }
 
 comes_on : (w : Option Request) (p q : Party) (log : List Exchange) → Along p q log → wants q.setting q.client ≡ w → Comes (phase_for w) p q log
@@ -196,6 +197,45 @@ pub driven_to_stop : (p q : Party) (log : List Exchange) (want : Want) (got : Re
 unfolding DrivenOver Comes
 driven_to_stop p q log want got is comes = (subst (λ (x : Phase). Comes x p q log) (said_stops q.phase want got is) comes).1
 
--- how much is left to do
-pub work_in : Party → ℕ
-work_in p = 0
+-- how many exchanges a proxy makes at most
+unfoldable pub phase_work : Phase → Client → ℕ
+phase_work fresh c = 0
+phase_work (waits r) c = suc (client_work c)
+phase_work finished c = 0
+phase_work (stuck want got) c = 0
+phase_work spent c = 0
+
+unfoldable pub work_in : Party → ℕ
+work_in p = phase_work p.phase p.client
+
+work_for : (w : Option Request) (c : Client) → phase_work (phase_for w) c ≤ suc (client_work c)
+unfolding phase_work phase_for
+work_for None c = omega arith
+work_for (Some r) c = omega arith
+
+work_if : (b : Bool) (q : Party) (r : Request) (got : Reply) → allowed q.client got ≡ b → work_in (heard_if b r got q) < suc (client_work q.client)
+unfolding work_in heard_if going_on phase_work
+work_if true q r got ok =
+    let some = work_for (wants q.setting (hears q.setting q.client got)) (hears q.setting q.client got) in
+    let less = hears_less q.setting q.client got ok in
+    omega (arith, some, less)
+work_if false q r got refused = omega arith
+
+pub work_less : (q q2 : Party) (r : Request) (got : Reply) → q.phase ≡ waits r → q2 ≡ told (Some got) q → work_in q2 < work_in q
+unfolding told told_by
+work_less q q2 r got is moved =
+    let here : work_in q ≡ suc (client_work q.client) = unfold work_in in unfold phase_work in ap (λ (x : Phase). phase_work x q.client) is in
+    let there : work_in q2 ≡ work_in (heard_if (allowed q.client got) r got q) = ap work_in moved ∙ ap (λ (x : Phase). work_in (told_by x (Some got) q)) is in
+    let less = work_if (allowed q.client got) q r got refl in
+    omega (arith, here, there, less)
+
+-- the same after calls whose results are known by equations
+pub comes_begun : (p q : Party) (st : Step) → q ≡ told None p → said q.phase ≡ Some st → IsDue q.phase q.setting q.client → Comes q.phase p q []
+comes_begun p q st moved says due =
+    subst (λ (x : Party). Comes x.phase p x []) (sym moved)
+    (comes_first p st (ap (λ (x : Party). said x.phase) (sym moved) ∙ says) (subst (λ (x : Party). IsDue x.phase x.setting x.client) moved due))
+
+pub comes_moved : (p q q2 : Party) (log : List Exchange) (r : Request) (got : Reply) → said q.phase ≡ Some (step.Send r) → Comes q.phase p q log
+    → q2 ≡ told (Some got) q → Comes q2.phase p q2 (log ++ one r got ∷ [])
+comes_moved p q q2 log r got says comes moved =
+    subst (λ (x : Party). Comes x.phase p x (log ++ one r got ∷ [])) (sym moved) (comes_next p q log r got (said_sends q.phase r says) comes)

@@ -54,10 +54,10 @@ fits_kept d e same place low left fits = record {
   placed = is_placed e.doing e.place (length e.script) (omega (arith, place, ap length same.script, low));
   few_pieces = omega (arith, ap length same.script, fits.few_pieces);
   few_values =
-    let all : e.seals + values_left e.script e.place e.act ≡ e.seals + values_left d.script d.place e.act =
-        ap (λ (x : List Piece × ℕ). e.seals + values_left x.0 x.1 e.act) (let q : (e.script, e.place) ≡ (d.script, d.place) = cc (same.script) in q) in
-    let few = fits.few_values in
-    omega (arith, all, left, few);
+      let all : e.seals + values_left e.script e.place e.act ≡ e.seals + values_left d.script d.place e.act =
+      ap (λ (x : List Piece × ℕ). e.seals + values_left x.0 x.1 e.act) (let q : (e.script, e.place) ≡ (d.script, d.place) = cc (same.script) in q) in
+      let few = fits.few_values in
+      omega (arith, all, left, few);
   first = omega (arith, same.first, fits.first);
   session_from = subst (λ (x : SessionNo). 1 ≤ x.0) (sym same.session) fits.session_from;
   session_to = subst (λ (x : SessionNo). x.0 ≤ 64) (sym same.session) fits.session_to;
@@ -123,8 +123,8 @@ heard_goes d e constant r goes low same fits = record {
   client = goes.client ∙ same;
   session = goes.session;
   fits =
-    let left : values_left d.script d.place e.act ≡ values_left d.script d.place d.act = ap (values_left d.script d.place) goes.act in
-    fits_kept d e goes.session goes.place low (omega (arith, left, goes.seals)) fits;
+      let left : values_left d.script d.place e.act ≡ values_left d.script d.place d.act = ap (values_left d.script d.place) goes.act in
+      fits_kept d e goes.session goes.place low (omega (arith, left, goes.seals)) fits;
 }
 
 -- the next transaction of a script, at a place from 0
@@ -134,24 +134,24 @@ taken_up : (script : List Piece) (at : ℕ) (x : Doing) (seals place : ℕ) (don
 unfolding taking_up opening_where tasks_left stop_in tasks_of piece_at
 taken_up script at x seals place done is =
     elim (cases_lt at (length script)) [
-      inl low ↦
-        ap (λ (l : List Piece). taking_up l (let c : Client = record { tasks = []; looking = None; seals = seals; base = 0; answers = []; place = place; rest = []; done = done } in c)) (drop-cons script at no_piece low)
-        ∙ ap (λ (l : List Task). let c : Client = record { tasks = opens ∷ l; looking = None; seals = seals; base = 0; answers = []; place = place; rest = drop (suc at) script; done = done } in c) (sym (acts_from-zero (acts_of (piece_at script at)) (last_task (piece_at script at) ∷ [])))
-        ∙ sym (ap (λ (y : Doing). let c : Client = record { tasks = tasks_left y (piece_at script at) 0 0; looking = stop_in y; seals = seals; base = 0; answers = []; place = place; rest = drop (suc at) script; done = done } in c) (is ∙ ap opening_where (lt-ltb at (length script) low)))
-    | inr high ↦
-        ap (λ (l : List Piece). taking_up l (let c : Client = record { tasks = []; looking = None; seals = seals; base = 0; answers = []; place = place; rest = []; done = done } in c)) (drop_all at script high)
-        ∙ ap (λ (l : List Piece). let c : Client = record { tasks = []; looking = None; seals = seals; base = 0; answers = []; place = place; rest = l; done = done } in c) (sym (drop_all (suc at) script (omega arith)))
-        ∙ sym (ap (λ (y : Doing). let c : Client = record { tasks = tasks_left y (piece_at script at) 0 0; looking = stop_in y; seals = seals; base = 0; answers = []; place = place; rest = drop (suc at) script; done = done } in c) (is ∙ ap opening_where (le-ltb at (length script) high)))
+      | inl low ↦
+          ap (λ (l : List Piece). taking_up l (let c : Client = record { tasks = []; looking = None; seals = seals; base = 0; answers = []; place = place; rest = []; done = done } in c)) (drop-cons script at no_piece low)
+          ∙ ap (λ (l : List Task). let c : Client = record { tasks = opens ∷ l; looking = None; seals = seals; base = 0; answers = []; place = place; rest = drop (suc at) script; done = done } in c) (sym (acts_from-zero (acts_of (piece_at script at)) (last_task (piece_at script at) ∷ [])))
+          ∙ sym (ap (λ (y : Doing). let c : Client = record { tasks = tasks_left y (piece_at script at) 0 0; looking = stop_in y; seals = seals; base = 0; answers = []; place = place; rest = drop (suc at) script; done = done } in c) (is ∙ ap opening_where (lt-ltb at (length script) low)))
+      | inr high ↦
+          ap (λ (l : List Piece). taking_up l (let c : Client = record { tasks = []; looking = None; seals = seals; base = 0; answers = []; place = place; rest = []; done = done } in c)) (drop_all at script high)
+          ∙ ap (λ (l : List Piece). let c : Client = record { tasks = []; looking = None; seals = seals; base = 0; answers = []; place = place; rest = l; done = done } in c) (sym (drop_all (suc at) script (omega arith)))
+          ∙ sym (ap (λ (y : Doing). let c : Client = record { tasks = tasks_left y (piece_at script at) 0 0; looking = stop_in y; seals = seals; base = 0; answers = []; place = place; rest = drop (suc at) script; done = done } in c) (is ∙ ap opening_where (le-ltb at (length script) high)))
     ]
 
 opened_placed : (script : List Piece) (at : ℕ) (x : Doing) → x ≡ opening_where (ltb at (length script)) → IsPlaced x at (length script)
 unfolding opening_where IsPlaced
 opened_placed script at x is =
     elim (cases_lt at (length script)) [
-      inl low ↦ is_placed x at (length script) low
-    | inr high ↦
-        let P : Doing → Type 0 = λ y. IsPlaced y at (length script) in
-        subst P (sym (is ∙ ap opening_where (le-ltb at (length script) high))) tt
+      | inl low ↦ is_placed x at (length script) low
+      | inr high ↦
+          let P : Doing → Type 0 = λ y. IsPlaced y at (length script) in
+          subst P (sym (is ∙ ap opening_where (le-ltb at (length script) high))) tt
     ]
 
 -- a client whose transaction has ended
@@ -165,7 +165,7 @@ ended_client d x count next answers left done next_is answers_are none done_is =
     let one : d.place + 1 ≡ suc d.place = omega arith in
     let txn : ℕ → List Answer → DoneTxn = λ n l. record { session = d.session; place = n; base = d.base; end = x; answers = l } in
     let made : done ≡ d.done ++ txn (suc d.place) d.answers ∷ [] =
-        done_is ∙ ap (λ (l : List Answer). d.done ++ txn (d.place + 1) l ∷ []) answers_are ∙ ap (λ (n : ℕ). d.done ++ txn n d.answers ∷ []) one in
+    done_is ∙ ap (λ (l : List Answer). d.done ++ txn (d.place + 1) l ∷ []) answers_are ∙ ap (λ (n : ℕ). d.done ++ txn n d.answers ∷ []) one in
     ap (λ (l : List Answer). let c : Client = record { tasks = tasks_left next (piece_at d.script (d.place + 1)) 0 0; looking = stop_in next; seals = d.seals + count; base = 0; answers = l; place = suc (d.place + 1); rest = drop (suc (d.place + 1)) d.script; done = done } in c) none
     ∙ ap (λ (l : List DoneTxn). let c : Client = record { tasks = tasks_left next (piece_at d.script (d.place + 1)) 0 0; looking = stop_in next; seals = d.seals + count; base = 0; answers = []; place = suc (d.place + 1); rest = drop (suc (d.place + 1)) d.script; done = l } in c) made
     ∙ ap (λ (n : ℕ). let c : Client = record { tasks = tasks_left next (piece_at d.script n) 0 0; looking = stop_in next; seals = d.seals + count; base = 0; answers = []; place = suc n; rest = drop (suc n) d.script; done = d.done ++ txn (suc d.place) d.answers ∷ [] } in c) one
@@ -179,16 +179,16 @@ next_values : (script : List Piece) (place : ℕ) → values_left script (suc pl
 unfolding values_left piece_at acts_of
 next_values script place =
     elim (cases_lt (suc place) (length script)) [
-      inl low ↦
-        let all = ap (sum_by numbers_inserted) (drop-cons script (suc place) no_piece low)
-            ∙ sum_by-cons numbers_inserted (get_or script (suc place) no_piece) (drop (suc (suc place)) script) in
-        let own = numbers_are (get_or script (suc place) no_piece) in
-        omega (arith, all, own)
-    | inr high ↦
-        let none = ap (λ (p : Piece). sum_by inserted_numbers (acts_of p)) (get_or_past script (suc place) no_piece high) in
-        let past = ap (sum_by numbers_inserted) (drop_all (suc (suc place)) script (omega arith)) in
-        let past2 = ap (sum_by numbers_inserted) (drop_all (suc place) script high) in
-        omega (arith, none, past, past2)
+      | inl low ↦
+          let all = ap (sum_by numbers_inserted) (drop-cons script (suc place) no_piece low)
+          ∙ sum_by-cons numbers_inserted (get_or script (suc place) no_piece) (drop (suc (suc place)) script) in
+          let own = numbers_are (get_or script (suc place) no_piece) in
+          omega (arith, all, own)
+      | inr high ↦
+          let none = ap (λ (p : Piece). sum_by inserted_numbers (acts_of p)) (get_or_past script (suc place) no_piece high) in
+          let past = ap (sum_by numbers_inserted) (drop_all (suc (suc place)) script (omega arith)) in
+          let past2 = ap (sum_by numbers_inserted) (drop_all (suc place) script high) in
+          omega (arith, none, past, past2)
     ]
 
 -- what holds of a client whose transaction has ended
@@ -199,11 +199,11 @@ fits_ended d e x count ends few fits = record {
   placed = subst (λ (l : List Piece). IsPlaced e.doing e.place (length l)) (sym ends.session.script) ends.placed;
   few_pieces = omega (arith, ap length ends.session.script, fits.few_pieces);
   few_values =
-    let all : e.seals + values_left e.script e.place e.act ≡ (d.seals + count) + values_left d.script (suc d.place) 0 =
-        let q : (e.seals, e.script, e.place, e.act) ≡ (d.seals + count, d.script, suc d.place, 0) = cc (ends.session.script, ends.seals, ends.place, ends.act) in
-        ap (λ (y : ℕ × List Piece × ℕ × ℕ). y.0 + values_left y.1 y.2 y.3) q in
-    let next = next_values d.script d.place in
-    omega (arith, all, next, few, fits.few_values);
+      let all : e.seals + values_left e.script e.place e.act ≡ (d.seals + count) + values_left d.script (suc d.place) 0 =
+      let q : (e.seals, e.script, e.place, e.act) ≡ (d.seals + count, d.script, suc d.place, 0) = cc (ends.session.script, ends.seals, ends.place, ends.act) in
+      ap (λ (y : ℕ × List Piece × ℕ × ℕ). y.0 + values_left y.1 y.2 y.3) q in
+      let next = next_values d.script d.place in
+      omega (arith, all, next, few, fits.few_values);
   first = omega (arith, ends.session.first, fits.first);
   session_from = subst (λ (y : SessionNo). 1 ≤ y.0) (sym ends.session.session) fits.session_from;
   session_to = subst (λ (y : SessionNo). y.0 ≤ 64) (sym ends.session.session) fits.session_to;

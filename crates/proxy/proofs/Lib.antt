@@ -8,3 +8,4 @@ mod RequestLemmas
 mod SealLemmas
 mod StandingLemmas
 mod TurnLemmas
+mod WorkLemmas

@@ -131,9 +131,9 @@ fresh_fits d doing_is place act seals pieces numbers first from to = record {
   placed = let P : ℕ → Type 0 = λ n. IsPlaced d.doing n (length d.script) in subst P (sym place) (fresh_placed d.script d.doing doing_is);
   few_pieces = pieces;
   few_values =
-    let e : d.seals + values_left d.script d.place d.act ≡ 0 + values_left d.script 0 0 = cc in
-    let all = fresh_values d.script in
-    omega (arith, e, all);
+      let e : d.seals + values_left d.script d.place d.act ≡ 0 + values_left d.script 0 0 = cc in
+      let all = fresh_values d.script in
+      omega (arith, e, all);
   first = first;
   session_from = from;
   session_to = to;

@@ -147,8 +147,8 @@ pub acts_from-some : (acts : List Act) (i : ℕ) (a : Act) (k : ℕ) (x : ColNo 
 unfolding acts_from
 acts_from-some acts i a k x later within is here =
     let step : (n : ℕ) → acts_from (drop i acts) n later ≡ looks_then (table_named a) (drop n (constants_of a)) (does a ∷ acts_then (drop (i + 1) acts) later) =
-        λ n. at_drop_more (λ l. acts_from l n later) acts i a within
-        ∙ ap (λ (y : Act). looks_then (table_named y) (drop n (constants_of y)) (does y ∷ acts_then (drop (i + 1) acts) later)) (sym is) in
+    λ n. at_drop_more (λ l. acts_from l n later) acts i a within
+    ∙ ap (λ (y : Act). looks_then (table_named y) (drop n (constants_of y)) (does y ∷ acts_then (drop (i + 1) acts) later)) (sym is) in
     ap (λ l. looks (table_named a) x.0 x.1 ∷ l) (step (k + 1))
     ∙ sym (looks_then-some (table_named a) (constants_of a) k x (does a ∷ acts_then (drop (i + 1) acts) later) here)
     ∙ sym (step k)

@@ -37,7 +37,11 @@ pub(crate) fn opens_with(reply: &Reply) -> bool
     ensures { result ≡ rules.opens_with reply.now }
 {
     match reply {
-        Reply::Ended { how: How::Began, table: _, number: _ } => true,
+        Reply::Ended {
+            how: How::Began,
+            table: _,
+            number: _,
+        } => true,
         _ => false,
     }
 }
@@ -69,7 +73,11 @@ fn fits_rows(verb: &Verb, width: u8, count: usize) -> bool
     ensures { result ≡ rules.fits_rows verb.now width count }
 {
     match verb {
-        Verb::Rows { columns, order: _, limit: _ } => usize::from(width) == columns.as_slice().len(),
+        Verb::Rows {
+            columns,
+            order: _,
+            limit: _,
+        } => usize::from(width) == columns.as_slice().len(),
         Verb::Count => false,
         Verb::Min(_) => width == 1 && count <= 1,
         Verb::Max(_) => width == 1 && count <= 1,
@@ -82,7 +90,11 @@ fn fits_count(verb: &Verb) -> bool
     ensures { result ≡ rules.fits_count verb.now }
 {
     match verb {
-        Verb::Rows { columns: _, order: _, limit: _ } => false,
+        Verb::Rows {
+            columns: _,
+            order: _,
+            limit: _,
+        } => false,
         Verb::Count => true,
         Verb::Min(_) => false,
         Verb::Max(_) => false,
@@ -143,7 +155,11 @@ pub(crate) fn closes_with(rollback: bool, acts: &[Act], reply: &Reply) -> bool
     ensures { result ≡ rules.closes_with rollback (map table_named acts.now) reply.now }
 {
     match reply {
-        Reply::Ended { how, table, number: _ } => is_end(rollback, acts, *how, *table),
+        Reply::Ended {
+            how,
+            table,
+            number: _,
+        } => is_end(rollback, acts, *how, *table),
         _ => false,
     }
 }
@@ -167,7 +183,11 @@ pub(crate) fn rebuilds_with(table: TableNo, reply: &Reply) -> bool
     ensures { result ≡ rules.rebuilds_with table reply.now }
 {
     match reply {
-        Reply::Ended { how, table: named, number: _ } => is_install_end(table, *how, *named),
+        Reply::Ended {
+            how,
+            table: named,
+            number: _,
+        } => is_install_end(table, *how, *named),
         _ => false,
     }
 }

@@ -40,12 +40,7 @@ impl Model for Proxy {
 impl Proxy {
     /// A proxy that has said nothing yet. It takes no memory.
     #[tactic(auto, unfolding(crate::specs::Inside::party_by, crate::specs::Inside::phase_in, crate::specs::Inside::Holds, crate::specs::Party::party_of))]
-    pub fn new(
-        alloc: Global,
-        settings: Settings,
-        session: SessionNo,
-        script: Items<Piece>,
-    ) -> Proxy
+    pub fn new(alloc: Global, settings: Settings, session: SessionNo, script: Items<Piece>) -> Proxy
         requires first { settings.first ≤ 2 ^ 63 }
         requires session_from { 1 ≤ session.0 }
         requires session_to { session.0 ≤ 64 }

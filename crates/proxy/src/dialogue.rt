@@ -50,7 +50,10 @@ pub(crate) fn acts_in(piece: &Piece) -> &[Act]
 {
     match piece {
         Piece::Txn { acts, rollback: _ } => acts.as_slice(),
-        Piece::Rebuild { table: _, column: _ } => &[],
+        Piece::Rebuild {
+            table: _,
+            column: _,
+        } => &[],
     }
 }
 
@@ -116,8 +119,14 @@ fn last_want(piece: &Piece) -> Want
     ensures { result ≡ want_for (last_task piece.now) }
 {
     match piece {
-        Piece::Txn { acts: _, rollback: _ } => Want::End,
-        Piece::Rebuild { table: _, column: _ } => Want::Rebuild,
+        Piece::Txn {
+            acts: _,
+            rollback: _,
+        } => Want::End,
+        Piece::Rebuild {
+            table: _,
+            column: _,
+        } => Want::Rebuild,
     }
 }
 
@@ -126,7 +135,11 @@ fn last_want(piece: &Piece) -> Want
 pub(crate) fn opening_if(there: bool) -> Doing
     ensures { result ≡ opening_where there }
 {
-    if there { Doing::Opening } else { Doing::Nothing }
+    if there {
+        Doing::Opening
+    } else {
+        Doing::Nothing
+    }
 }
 
 impl Dialogue {

@@ -1,14 +1,30 @@
 //! A proxy driven over a link.
 
-ghost use Rattle.std.specs.Prelude.{◌≡◌, ◌++◌, ◌∷◌, [], List, IfOk};
+ghost use Rattle.std.specs.Prelude.{◌≡◌, ◌++◌, ◌∷◌, [], List, Some, IfOk, OnOk, OnErr};
 ghost use Rattle.walk_proto.specs.declared.messages.Exchange.{Exchange};
-ghost use Rattle.proxy.specs.Party.{DrivenOver};
+ghost use Rattle.proxy.specs.Party.{DrivenOver, told, said};
 ghost use Rattle.proxy.specs.Talk.{Talk};
 
 use crate::client::Proxy;
 use crate::outcomes::{Driven, Step};
 use mope_base::OutOfMemory;
-use walk_proto::Link;
+use walk_proto::{Link, Reply, Request};
+
+/// The reply of a link to a request.
+fn reply_of<L: Link>(link: &mut L, request: Request) -> Result<Reply, OutOfMemory>
+    ensures ok { IfOk result (λ got. L.exchanges link.new ≡ L.exchanges link.old ++ (record { request = request; reply = got }) ∷ []) }
+    ensures err { OnErr result (L.exchanges link.new ≡ L.exchanges link.old) }
+{
+    link.exchange(&request)
+}
+
+/// Hands a proxy a reply.
+fn hand(proxy: &mut Proxy, reply: Reply) -> Result<Step, OutOfMemory>
+    ensures moves { OnOk result (proxy.new ≡ told (Some reply) proxy.old) }
+    ensures says { IfOk result (λ step. said proxy.new.phase ≡ Some step) }
+{
+    proxy.next(Some(&reply))
+}
 
 /// Drives a proxy over a link from where it stands, until its script has ended or a reply is strange. What it adds to the
 /// link's exchanges is a log whose requests are the client's; on `OutOfMemory` too.
@@ -21,8 +37,8 @@ pub fn drive<L: Link>(proxy: Proxy, link: &mut L) -> Result<Driven, OutOfMemory>
     'exchanges: loop {
         match step {
             Step::Send(request) => {
-                let reply = link.exchange(&request)?;
-                step = proxy.next(Some(&reply))?;
+                let reply = reply_of(link, request)?;
+                step = hand(&mut proxy, reply)?;
             }
             Step::Done => return Ok(Driven::Finished(proxy.finish())),
             Step::Strange { want, got } => return Ok(Driven::Strange { want, got }),

@@ -52,7 +52,10 @@ fn is_rolled_back(piece: &Piece) -> bool
 {
     match piece {
         Piece::Txn { acts: _, rollback } => *rollback,
-        Piece::Rebuild { table: _, column: _ } => false,
+        Piece::Rebuild {
+            table: _,
+            column: _,
+        } => false,
     }
 }
 
@@ -90,7 +93,11 @@ impl Dialogue {
         ensures { Heard self.old self.new reply.now }
     {
         match reply {
-            Reply::Ended { how: _, table: _, number } => {
+            Reply::Ended {
+                how: _,
+                table: _,
+                number,
+            } => {
                 self.base = *number;
                 self.go_on(self.act, self.constant);
             }
@@ -99,7 +106,14 @@ impl Dialogue {
     }
 
     /// The walk comes to an item.
-    fn step_down(&mut self, table: TableNo, column: ColNo, constant: u64, stop: Option<Stop>, body: Body)
+    fn step_down(
+        &mut self,
+        table: TableNo,
+        column: ColNo,
+        constant: u64,
+        stop: Option<Stop>,
+        body: Body,
+    )
         requires fits { Fits self.old }
         requires looking { self.old.doing ≡ doing.Looking table column constant stop }
         requires room { IfSome stop (λ above. above.steps < 255) }
@@ -115,7 +129,14 @@ impl Dialogue {
     }
 
     /// The walk goes on or has its place.
-    fn lead(&mut self, table: TableNo, column: ColNo, constant: u64, stop: Option<Stop>, reply: &Reply)
+    fn lead(
+        &mut self,
+        table: TableNo,
+        column: ColNo,
+        constant: u64,
+        stop: Option<Stop>,
+        reply: &Reply,
+    )
         requires fits { Fits self.old }
         requires looking { self.old.doing ≡ doing.Looking table column constant stop }
         requires allowed { allowed (client_in self.old) reply.now ≡ true }

@@ -46,7 +46,11 @@ fn rows_answer(
     ensures stays { pads.new ≡ pads.old }
 {
     match verb {
-        Verb::Rows { columns: _, order: _, limit: _ } => {
+        Verb::Rows {
+            columns: _,
+            order: _,
+            limit: _,
+        } => {
             let values = opened_all(alloc, pads, bodies)?;
             Ok(Some(Answer::Rows { width, values }))
         }
@@ -62,7 +66,11 @@ fn count_answer(verb: &Verb, number: u64) -> Option<Answer>
     ensures { result ≡ client.count_answer verb.now number }
 {
     match verb {
-        Verb::Rows { columns: _, order: _, limit: _ } => None,
+        Verb::Rows {
+            columns: _,
+            order: _,
+            limit: _,
+        } => None,
         Verb::Count => Some(Answer::Count(number)),
         Verb::Min(_) => None,
         Verb::Max(_) => None,
@@ -86,7 +94,11 @@ pub(crate) fn answer_in(
         Reply::Placed => Ok(None),
         Reply::Rows { width, bodies } => rows_answer(alloc, pads, verb, *width, bodies.as_slice()),
         Reply::Count(number) => Ok(count_answer(verb, *number)),
-        Reply::Ended { how: _, table: _, number: _ } => Ok(None),
+        Reply::Ended {
+            how: _,
+            table: _,
+            number: _,
+        } => Ok(None),
         Reply::No { code: _, value: _ } => Ok(None),
     }
 }

@@ -43,12 +43,7 @@ pub(crate) fn sealed_row(
 
 /// The step of a walk for a constant, from where the walk stands.
 #[tactic(auto, unfolding(crate::specs::Client::step_for, crate::specs::Client::step_by))]
-pub(crate) fn walk_step(
-    constant: u64,
-    stop: Option<Stop>,
-    table: TableNo,
-    column: ColNo,
-) -> Request
+pub(crate) fn walk_step(constant: u64, stop: Option<Stop>, table: TableNo, column: ColNo) -> Request
     ensures { result ≡ step_for constant stop table column }
 {
     match stop {
@@ -70,7 +65,11 @@ fn verb_byte(verb: &Verb) -> u8
     ensures { result ≡ tasks.verb_byte verb.now }
 {
     match verb {
-        Verb::Rows { columns: _, order: _, limit: _ } => 0,
+        Verb::Rows {
+            columns: _,
+            order: _,
+            limit: _,
+        } => 0,
         Verb::Count => 1,
         Verb::Min(_) => 2,
         Verb::Max(_) => 3,
@@ -83,7 +82,11 @@ fn target_byte(verb: &Verb) -> u8
     ensures { result ≡ tasks.target_byte verb.now }
 {
     match verb {
-        Verb::Rows { columns: _, order: _, limit: _ } => 0,
+        Verb::Rows {
+            columns: _,
+            order: _,
+            limit: _,
+        } => 0,
         Verb::Count => 0,
         Verb::Min(column) => column.0,
         Verb::Max(column) => column.0,
@@ -96,7 +99,11 @@ fn order_in(verb: &Verb) -> Option<(ColNo, bool)>
     ensures { result ≡ tasks.order_in verb.now }
 {
     match verb {
-        Verb::Rows { columns: _, order, limit: _ } => *order,
+        Verb::Rows {
+            columns: _,
+            order,
+            limit: _,
+        } => *order,
         Verb::Count => None,
         Verb::Min(_) => None,
         Verb::Max(_) => None,
@@ -120,7 +127,11 @@ fn limit_in(verb: &Verb) -> Option<u64>
     ensures { result ≡ tasks.limit_in verb.now }
 {
     match verb {
-        Verb::Rows { columns: _, order: _, limit } => *limit,
+        Verb::Rows {
+            columns: _,
+            order: _,
+            limit,
+        } => *limit,
         Verb::Count => None,
         Verb::Min(_) => None,
         Verb::Max(_) => None,
@@ -139,7 +150,11 @@ fn column_bytes(alloc: Global, verb: &Verb) -> Result<Items<u8>, OutOfMemory>
     ensures { IfOk result (λ bytes. bytes ≡ tasks.column_bytes verb.now) }
 {
     match verb {
-        Verb::Rows { columns, order: _, limit: _ } => column_list(alloc, columns.as_slice()),
+        Verb::Rows {
+            columns,
+            order: _,
+            limit: _,
+        } => column_list(alloc, columns.as_slice()),
         Verb::Count => Ok(Items::new(alloc)),
         Verb::Min(_) => Ok(Items::new(alloc)),
         Verb::Max(_) => Ok(Items::new(alloc)),

@@ -16,13 +16,13 @@ returns-in-Some-clause-within c =
 pub overflow_sub-left : goal.overflow_sub-left
 overflow_sub-left c =
     let past = condition-past c.args.tests.now c.tests.i c.tests.left c.args.index (record { 0 = 0 }, test.Eq 0) c.tests-test.true
-        c.tests.invariant.same c.in-None.ensures in
+    c.tests.invariant.same c.in-None.ensures in
     omega (arith, past.0, c.constant_count-left.ensures)
 
 pub tests-preserved : goal.tests-preserved
 tests-preserved c =
     let past = condition-past c.args.tests.now c.tests.i c.tests.left c.args.index (record { 0 = 0 }, test.Eq 0) c.tests-test.true
-        c.tests.invariant.same c.in-None.ensures in
+    c.tests.invariant.same c.in-None.ensures in
     record {
       same = past.1 ∙ ap (λ n. drop (c.tests.left - n) (constants_all (drop (c.tests.i + 1) c.args.tests.now))) (sym c.constant_count-left.ensures);
       near = omega (arith, past.0, c.constant_count-left.ensures, length-constant (get_or c.args.tests.now c.tests.i (record { 0 = 0 }, test.Eq 0)).1, c.tests.invariant.near);

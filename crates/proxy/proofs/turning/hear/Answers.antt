@@ -41,7 +41,7 @@ returns-in_ok-reserve-in-Fresh-clause-running c = tt
 pub returns-else-has_ended-clause-party : goal.returns-else-has_ended-clause-party
 returns-else-has_ended-clause-party c =
     let some = wants_some (setting_in c.args.dialogue.now) (client_in c.args.dialogue.now)
-        (λ none. absurd (let e : false ≡ true = sym c.if-has_ended.false ∙ c.has_ended.ensures.1 none in cc)) in
+    (λ none. absurd (let e : false ≡ true = sym c.if-has_ended.false ∙ c.has_ended.ensures.1 none in cc)) in
     on_ok_weaker c.hear_reply.result
     (λ party.
     told_reply c.args.dialogue.now c.args.keep c.args.log.now some.0 c.in-Some.got.now _ some.1

@@ -21,7 +21,7 @@ returns-then-self-acts-clause-wants c =
 pub sealed_row-requires-clause-room : goal.sealed_row-requires-clause-room
 sealed_row-requires-clause-room c =
     let reads : Reads c.args.self.now c.piece_in-piece.result.now c.acts_in-acts.result.now c.index-acts-self.result =
-        record { piece_is = c.piece_in-piece.ensures; acts_are = c.acts_in-acts.ensures; within = c.if-self-acts.false; is = c.index-acts-self.is } in
+    record { piece_is = c.piece_in-piece.ensures; acts_are = c.acts_in-acts.ensures; within = c.if-self-acts.false; is = c.index-acts-self.is } in
     let fits = row-fits c.args.self.now _ _ _ c.in-Insert.table c.in-Insert.values reads c.in-Insert.is c.requires.fits in
     omega (arith, fits, ap length c.as_slice-values.ensures)
 
@@ -29,7 +29,7 @@ pub returns-in_ok-bodies-in-Insert-clause-wants : goal.returns-in_ok-bodies-in-I
 unfolding setting_in
 returns-in_ok-bodies-in-Insert-clause-wants c =
     let reads : Reads c.args.self.now c.piece_in-piece.result.now c.acts_in-acts.result.now c.index-acts-self.result =
-        record { piece_is = c.piece_in-piece.ensures; acts_are = c.acts_in-acts.ensures; within = c.if-self-acts.false; is = c.index-acts-self.is } in
+    record { piece_is = c.piece_in-piece.ensures; acts_are = c.acts_in-acts.ensures; within = c.if-self-acts.false; is = c.index-acts-self.is } in
     wants_row c.args.self.now _ _ _ c.in-Insert.table c.in-Insert.values c.in_ok-bodies-in-Insert.bodies c.requires.acting reads c.in-Insert.is
     (c.in_ok-bodies-in-Insert.ensures.bodies
     ∙ ap (λ l. map (sealed c.args.self.now.pads) (cells_from (setting_in c.args.self.now) c.args.self.now.seals l)) c.as_slice-values.ensures)
@@ -37,5 +37,5 @@ returns-in_ok-bodies-in-Insert-clause-wants c =
 pub returns-in_ok-asked-in-Ask-clause-wants : goal.returns-in_ok-asked-in-Ask-clause-wants
 returns-in_ok-asked-in-Ask-clause-wants c =
     let reads : Reads c.args.self.now c.piece_in-piece.result.now c.acts_in-acts.result.now c.index-acts-self.result =
-        record { piece_is = c.piece_in-piece.ensures; acts_are = c.acts_in-acts.ensures; within = c.if-self-acts.false; is = c.index-acts-self.is } in
+    record { piece_is = c.piece_in-piece.ensures; acts_are = c.acts_in-acts.ensures; within = c.if-self-acts.false; is = c.index-acts-self.is } in
     wants_ask c.args.self.now _ _ _ c.in-Ask.ask c.in_ok-asked-in-Ask.field-0 c.requires.acting reads c.in-Ask.is c.in_ok-asked-in-Ask.ensures

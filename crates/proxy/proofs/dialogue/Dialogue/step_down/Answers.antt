@@ -9,10 +9,10 @@ pub returns : goal.returns
 unfolding client_in
 returns c = record {
   client =
-    heard_node c.args.self.now c.args.table c.args.column c.args.constant c.args.stop c.stop_below.result c.args.body c.requires.looking
-    (c.stop_below.ensures ∙ ap (λ (n : ℕ). stop_below c.args.stop n) c.unseal-value.ensures.value);
+      heard_node c.args.self.now c.args.table c.args.column c.args.constant c.args.stop c.stop_below.result c.args.body c.requires.looking
+      (c.stop_below.ensures ∙ ap (λ (n : ℕ). stop_below c.args.stop n) c.unseal-value.ensures.value);
   session = record { pads = c.unseal-value.ensures.stays; first = refl; session = refl; script = refl };
   fits =
-    fits_kept c.args.self.now _ (record { pads = c.unseal-value.ensures.stays; first = refl; session = refl; script = refl }) refl
-    (placed_looking c.args.self.now c.args.table c.args.column c.args.constant c.args.stop c.requires.looking c.requires.fits) (omega arith) c.requires.fits;
+      fits_kept c.args.self.now _ (record { pads = c.unseal-value.ensures.stays; first = refl; session = refl; script = refl }) refl
+      (placed_looking c.args.self.now c.args.table c.args.column c.args.constant c.args.stop c.requires.looking c.requires.fits) (omega arith) c.requires.fits;
 }

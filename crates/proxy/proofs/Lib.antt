@@ -1,0 +1,11 @@
+pub mod ListLemmas
+mod AnswerLemmas
+mod ConstantLemmas
+mod DriveLemmas
+mod HearingLemmas
+mod NamedLemmas
+mod RequestLemmas
+mod SealLemmas
+mod StandingLemmas
+mod TurnLemmas
+mod WorkLemmas

@@ -1,0 +1,9 @@
+pub mod Tasks
+pub mod Client
+pub mod Allowed
+pub mod Talk
+pub mod KeptPads
+pub mod Standing
+pub mod Party
+pub mod Inside
+pub mod Examples

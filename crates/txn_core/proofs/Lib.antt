@@ -1,3 +1,4 @@
 pub mod Starting
 pub mod Traced
 pub mod Balanced
+pub mod Repeated

@@ -118,7 +118,7 @@ shelf-outside [] table h = refl
 shelf-outside (s ∷ shelves) zero h = absurd (omega (arith, h))
 shelf-outside (s ∷ shelves) (suc table) h = shelf-outside shelves table (omega (arith, h))
 
-stamp-outside : (stamps : List Stamps) (table : ℕ) → length stamps ≤ table → stamps_at stamps table ≡ no_stamps
+pub stamp-outside : (stamps : List Stamps) (table : ℕ) → length stamps ≤ table → stamps_at stamps table ≡ no_stamps
 unfolding stamps_at
 stamp-outside [] table h = refl
 stamp-outside (s ∷ stamps) zero h = absurd (omega (arith, h))

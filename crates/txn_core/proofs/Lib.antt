@@ -5,3 +5,5 @@ pub mod Repeated
 pub mod Later
 pub mod Stepped
 pub mod Clashing
+pub mod Found
+pub mod Taken

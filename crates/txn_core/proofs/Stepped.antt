@@ -1,5 +1,5 @@
 -- A state after one turn more.
-use Rattle.std.proofs.Common.{◌≡◌, ℕ, suc, zero, ◌+◌, ◌<◌, ◌≤◌, List, [], ◌∷◌, ◌++◌, length, take, refl, ap, ◌∙◌, sym, arith, subst, inl, inr}
+use Rattle.std.proofs.Common.{◌≡◌, ℕ, suc, zero, ◌+◌, ◌<◌, ◌≤◌, List, [], ◌∷◌, ◌++◌, length, take, refl, ap, ap₂, ◌∙◌, sym, arith, subst, inl, inr}
 use Rattle.std.proofs.lemmas.Bool.{cases_lt}
 use Rattle.std.proofs.lemmas.List.{length-append, take-append-le}
 use Rattle.std.proofs.Math.Seq.{take-length}
@@ -7,6 +7,7 @@ use Rattle.mope_base.specs.declared.numbers.TableNo.{TableNo}
 use Rattle.mope_base.specs.declared.numbers.ColNo.{ColNo}
 use Rattle.mope_base.specs.declared.numbers.SessionNo.{SessionNo}
 use Rattle.versions.specs.declared.op.Op.{Op}
+use Rattle.versions.specs.declared.change.ColumnChange.{ColumnChange}
 use Rattle.versions.specs.declared.turn.Turn.{Turn}
 use Rattle.versions.specs.declared.turn.TurnKind.{TurnKind}
 use Rattle.versions.specs.declared.turn.TurnKind.TheVariants.{Began, Committed, Conflict, Installed, Stale}
@@ -61,6 +62,14 @@ goes_on first turns current turn course told low since =
             (since (replay (take taken turns) first) (course.since taken within))
       ];
     }
+
+-- ---- the list with a turn that was made
+
+pub told_turn : (turns later : List Turn) (session : SessionNo) (what said : TurnKind) (changes : List ColumnChange) (current : Database) → later ≡ turns ++ (record { session = session; what = what; changes = changes }) ∷ [] → what ≡ said → changes ≡ changes_by said current
+    → later ≡ turns ++ turn_on session said current ∷ []
+unfolding turn_on
+told_turn turns later session what said changes current added what_is changes_are =
+    added ∙ ap₂ (λ (w : TurnKind) (cs : List ColumnChange). let t : Turn = record { session = session; what = w; changes = cs } in turns ++ t ∷ []) what_is changes_are
 
 -- ---- turns that leave the version
 

@@ -1,0 +1,59 @@
+use Rattle.std.proofs.Common.{◌≡◌, ◌<◌, ◌≤◌, ◌++◌, ◌∷◌, [], List, max, ap, ◌∙◌, sym, subst, arith}
+use Rattle.enc_table.specs.declared.stamps.Stamps.{Stamps}
+use Rattle.versions.specs.declared.turn.Turn.{Turn}
+use Rattle.versions.specs.Databases.{Database, IsDatabase, stamps_at}
+use Rattle.versions.specs.Newer.{last_change}
+use Rattle.versions.specs.Turns.{after_turn}
+use Rattle.txn_core.specs.Courses.{Course}
+use Rattle.txn_core.specs.Outcomes.{turn_on, install_kind, install_answer, changed_by}
+use Rattle.txn_core.specs.Since.{IsCourse}
+use Rattle.txn_core.specs.declared.outcome.Installed.TheVariants as install
+use Rattle.txn_core.proofs.Taken.{stale_answer, stale_turn, stale_current, stale_course, laid_answer, laid_turn, laid_current, laid_course}
+use Rattle.txn_core.proofs.state.State.install.Goals as goal
+
+pub invariant_of-self-then-since-number : goal.invariant_of-self-then-since-number
+invariant_of-self-then-since-number c =
+    stale_course c.self.inside.first c.self.inside.turns.items c.add_turn.new.turns.items c.args.session c.self.inside.current c.args.table c.max-number.result c.new.result c.self.invariant c.in_ok-add_turn.ensures.added c.new.ensures
+
+pub returns-then-since-number-clause-answer : goal.returns-then-since-number-clause-answer
+unfolding changed_by last_change
+returns-then-since-number-clause-answer c =
+    let now = c.self.inside.current in
+    let since_is = c.number-since.ensures.value ∙ ap (λ (d : Database). d.number) c.version.ensures in
+    let number_is = c.max-number.ensures ∙ ap (λ (s : Stamps). max s.written s.laid) (c.stamps_of-stamps.ensures.stamps ∙ ap (λ (d : Database). stamps_at d.stamps c.args.table.0) c.version-2.ensures) in
+    let newer : c.args.base.now.number < c.max-number.result = omega (arith, since_is, c.if-since-number.true) in
+    subst (λ (s : Course). install.Stale c.args.table c.max-number.result ≡ install_answer s.current c.args.base.now.number c.args.table) c.self.view_is
+    (stale_answer now c.args.base.now.number c.args.table c.max-number.result number_is newer)
+
+pub returns-then-since-number-clause-turn : goal.returns-then-since-number-clause-turn
+unfolding changed_by last_change
+returns-then-since-number-clause-turn c =
+    let now = c.self.inside.current in
+    let since_is = c.number-since.ensures.value ∙ ap (λ (d : Database). d.number) c.version.ensures in
+    let number_is = c.max-number.ensures ∙ ap (λ (s : Stamps). max s.written s.laid) (c.stamps_of-stamps.ensures.stamps ∙ ap (λ (d : Database). stamps_at d.stamps c.args.table.0) c.version-2.ensures) in
+    let newer : c.args.base.now.number < c.max-number.result = omega (arith, since_is, c.if-since-number.true) in
+    subst (λ (s : Course). c.add_turn.new.turns.items ≡ s.turns ++ turn_on c.args.session (install_kind s.current c.args.base.now.number c.args.table c.args.column) s.current ∷ []) c.self.view_is
+    (stale_turn c.self.inside.turns.items c.add_turn.new.turns.items c.args.session now c.args.base.now.number c.args.table c.args.column c.max-number.result c.new.result c.in_ok-add_turn.ensures.added c.new.ensures number_is newer)
+
+pub returns-then-since-number-clause-current : goal.returns-then-since-number-clause-current
+unfolding changed_by last_change
+returns-then-since-number-clause-current c =
+    let now = c.self.inside.current in
+    let since_is = c.number-since.ensures.value ∙ ap (λ (d : Database). d.number) c.version.ensures in
+    let number_is = c.max-number.ensures ∙ ap (λ (s : Stamps). max s.written s.laid) (c.stamps_of-stamps.ensures.stamps ∙ ap (λ (d : Database). stamps_at d.stamps c.args.table.0) c.version-2.ensures) in
+    let newer : c.args.base.now.number < c.max-number.result = omega (arith, since_is, c.if-since-number.true) in
+    subst (λ (s : Course). now ≡ after_turn (install_kind s.current c.args.base.now.number c.args.table c.args.column) s.current) c.self.view_is
+    (stale_current now c.args.base.now.number c.args.table c.args.column c.max-number.result number_is newer)
+
+pub invariant_of-self-2 : goal.invariant_of-self-2
+invariant_of-self-2 c =
+    let e = c.in_ok-made.ensures in let w = c.version-3.ensures in let d = c.version-2.ensures in let r = c.in_ok-check_room.ensures.room in ?
+
+pub returns-clause-answer : goal.returns-clause-answer
+returns-clause-answer c = ?
+
+pub returns-clause-turn : goal.returns-clause-turn
+returns-clause-turn c = ?
+
+pub returns-clause-current : goal.returns-clause-current
+returns-clause-current c = ?

@@ -1,5 +1,5 @@
 -- What commits and installs answer, and the states after them, from what the code finds.
-use Rattle.std.proofs.Common.{◌≡◌, ℕ, suc, ◌<◌, ◌≤◌, Bool, true, false, ltb, List, [], ◌∷◌, ◌++◌, refl, ap, ◌∙◌, sym, arith, subst, Option, Some, None}
+use Rattle.std.proofs.Common.{◌≡◌, ℕ, suc, ◌<◌, ◌≤◌, Bool, true, false, ltb, List, [], ◌∷◌, ◌++◌, length, take, refl, ap, ◌∙◌, sym, arith, subst, Option, Some, None}
 use Rattle.std.proofs.lemmas.Bool.{lt-ltb, le-ltb}
 use Rattle.mope_base.specs.declared.numbers.TableNo.{TableNo}
 use Rattle.mope_base.specs.declared.numbers.ColNo.{ColNo}
@@ -12,12 +12,16 @@ use Rattle.versions.specs.declared.turn.TurnKind.TheVariants.{Committed, Conflic
 use Rattle.versions.specs.Changes.{ops_changes, install_changes}
 use Rattle.versions.specs.Databases.{Database, IsDatabase}
 use Rattle.versions.specs.Operations.{rank_ops, with_ops, with_install}
-use Rattle.versions.specs.Turns.{after_turn, changes_by}
+use Rattle.versions.specs.Turns.{after_turn, replay, changes_by}
 use Rattle.txn_core.specs.Outcomes.{turn_on, conflict_on, committed_or, commit_kind, answer_or, commit_answer, changed_by, stale_if, install_kind, stale_answer_if, install_answer}
-use Rattle.txn_core.specs.Since.{IsCourse}
+use Rattle.txn_core.specs.Since.{IsSince, IsCourse}
 use Rattle.txn_core.specs.declared.outcome.Committed.TheVariants as commit
 use Rattle.txn_core.specs.declared.outcome.Installed.TheVariants as install
 use Rattle.txn_core.proofs.Stepped.{told_turn, refused, staled, committed, installed}
+
+-- the current version since one to which some of the turns lead
+pub since_past : (first : Database) (turns : List Turn) (current base : Database) (taken : ℕ) → taken ≤ length turns → base ≡ replay (take taken turns) first → IsCourse first turns current → IsSince base current
+since_past first turns current base taken within leads course = subst (λ (d : Database). IsSince d current) (sym leads) (course.since taken within)
 
 turn_of : SessionNo → TurnKind → List ColumnChange → Turn
 turn_of session what changes = record { session = session; what = what; changes = changes }

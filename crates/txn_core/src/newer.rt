@@ -1,7 +1,7 @@
 //! Which tables were changed after a version.
 ghost use Rattle.std.specs.Prelude.{◌≡◌, ◌&&◌, ltb};
 ghost use Rattle.txn_core.specs.Outcomes.{conflict_on};
-ghost use Rattle.versions.specs.Databases.{stamps_at};
+ghost use Rattle.versions.specs.Databases.{IsDatabase, stamps_at};
 ghost use Rattle.versions.specs.Newer.{names};
 
 use mope_base::TableNo;
@@ -28,6 +28,7 @@ fn clashes(touched: &[TableNo], table: TableNo, base: u64, written: u64) -> bool
 /// When a table was last changed; never, where there is no such table.
 pub(crate) fn stamps_of(version: &Version, table: TableNo) -> Stamps
     ensures stamps { result ≡ stamps_at version.now.stamps table.0 }
+    ensures database { IsDatabase version.now }
 {
     match version.table(table) {
         Some(found) => found.stamps(),
@@ -45,6 +46,7 @@ pub(crate) fn first_conflict(
     touched: &[TableNo],
 ) -> Option<(TableNo, u64)>
     ensures conflict { result ≡ conflict_on current.now base touched.now }
+    ensures database { IsDatabase current.now }
 {
     let tables = current.tables();
     'tables: for number in 0..tables {

@@ -5,16 +5,14 @@ use Rattle.versions.specs.Databases.{table_at}
 use Rattle.txn_core.proofs.Later.{stamp-outside}
 use Rattle.txn_core.proofs.newer.stamps_of.Goals as goal
 
-pub returns-in-Some : goal.returns-in-Some
+pub returns-in-Some-clause-stamps : goal.returns-in-Some-clause-stamps
 unfolding table_at
-returns-in-Some c = record { stamps = c.stamps.ensures ∙ ap (λ (t : Seen). t.stamps) c.in-Some.ensures.value }
+returns-in-Some-clause-stamps c = c.stamps.ensures ∙ ap (λ (t : Seen). t.stamps) c.in-Some.ensures.value
 
-pub returns-in-None : goal.returns-in-None
+pub returns-in-None-clause-stamps : goal.returns-in-None-clause-stamps
 unfolding no_stamps
-returns-in-None c =
-    record {
-      stamps = sym (elim (cases_lt c.args.table.0 (length c.args.version.now.shelves)) [
-        | inl inside ↦ absurd (false≢true (c.in-None.ensures.there.1 inside))
-        | inr outside ↦ stamp-outside c.args.version.now.stamps c.args.table.0 (omega (arith, outside, c.in-None.ensures.database.stamped))
-      ]);
-    }
+returns-in-None-clause-stamps c =
+    sym (elim (cases_lt c.args.table.0 (length c.args.version.now.shelves)) [
+      | inl inside ↦ absurd (false≢true (c.in-None.ensures.there.1 inside))
+      | inr outside ↦ stamp-outside c.args.version.now.stamps c.args.table.0 (omega (arith, outside, c.in-None.ensures.database.stamped))
+    ])

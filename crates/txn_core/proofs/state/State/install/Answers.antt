@@ -1,8 +1,11 @@
-use Rattle.std.proofs.Common.{◌≡◌, ◌<◌, ◌≤◌, ◌++◌, ◌∷◌, [], List, max, ap, ◌∙◌, sym, subst, arith}
+use Rattle.std.proofs.Common.{◌≡◌, suc, ◌<◌, ◌≤◌, ◌++◌, ◌∷◌, [], List, max, ap, ◌∙◌, sym, subst, arith}
 use Rattle.enc_table.specs.declared.stamps.Stamps.{Stamps}
 use Rattle.versions.specs.declared.turn.Turn.{Turn}
+use Rattle.versions.specs.declared.turn.TurnKind.TheVariants.{Installed}
+use Rattle.versions.specs.Changes.{install_changes}
 use Rattle.versions.specs.Databases.{Database, IsDatabase, stamps_at}
 use Rattle.versions.specs.Newer.{last_change}
+use Rattle.versions.specs.Operations.{with_install}
 use Rattle.versions.specs.Turns.{after_turn}
 use Rattle.txn_core.specs.Courses.{Course}
 use Rattle.txn_core.specs.Outcomes.{turn_on, install_kind, install_answer, changed_by}
@@ -47,13 +50,43 @@ returns-then-since-number-clause-current c =
 
 pub invariant_of-self-2 : goal.invariant_of-self-2
 invariant_of-self-2 c =
-    let e = c.in_ok-made.ensures in let w = c.version-3.ensures in let d = c.version-2.ensures in let r = c.in_ok-check_room.ensures.room in ?
+    let now = c.self.inside.current in
+    let made = c.in_ok-made.made in
+    laid_course c.self.inside.first c.self.inside.turns.items c.add_turn-2.new.turns.items c.args.session now made.version c.args.table c.args.column made.what made.changes
+    (subst (λ (d : Database). IsDatabase d) c.version-2.ensures c.stamps_of-stamps.ensures.database) c.self.invariant c.in_ok-add_turn-2.ensures.added
+    (c.in_ok-made.ensures.what ∙ ap (λ (d : Database). Installed (suc d.number) c.args.table c.args.column) c.version-3.ensures)
+    (c.in_ok-made.ensures.changes ∙ ap (install_changes c.args.table.0 c.args.column.0) c.version-3.ensures)
+    (c.in_ok-made.ensures.version ∙ ap (with_install c.args.table.0 c.args.column.0) c.version-3.ensures)
 
 pub returns-clause-answer : goal.returns-clause-answer
-returns-clause-answer c = ?
+unfolding changed_by last_change
+returns-clause-answer c =
+    let now = c.self.inside.current in
+    let since_is = c.number-since.ensures.value ∙ ap (λ (d : Database). d.number) c.version.ensures in
+    let number_is = c.max-number.ensures ∙ ap (λ (s : Stamps). max s.written s.laid) (c.stamps_of-stamps.ensures.stamps ∙ ap (λ (d : Database). stamps_at d.stamps c.args.table.0) c.version-2.ensures) in
+    let fresh : c.max-number.result ≤ c.args.base.now.number = omega (arith, since_is, c.if-since-number.false) in
+    subst (λ (s : Course). install.Installed c.in_ok-made.made.number ≡ install_answer s.current c.args.base.now.number c.args.table) c.self.view_is
+    (laid_answer now c.args.base.now.number c.args.table c.max-number.result c.in_ok-made.made.number number_is fresh (c.in_ok-made.ensures.number ∙ ap (λ (d : Database). suc d.number) c.version-3.ensures))
 
 pub returns-clause-turn : goal.returns-clause-turn
-returns-clause-turn c = ?
+unfolding changed_by last_change
+returns-clause-turn c =
+    let now = c.self.inside.current in
+    let since_is = c.number-since.ensures.value ∙ ap (λ (d : Database). d.number) c.version.ensures in
+    let number_is = c.max-number.ensures ∙ ap (λ (s : Stamps). max s.written s.laid) (c.stamps_of-stamps.ensures.stamps ∙ ap (λ (d : Database). stamps_at d.stamps c.args.table.0) c.version-2.ensures) in
+    let fresh : c.max-number.result ≤ c.args.base.now.number = omega (arith, since_is, c.if-since-number.false) in
+    let made = c.in_ok-made.made in
+    subst (λ (s : Course). c.add_turn-2.new.turns.items ≡ s.turns ++ turn_on c.args.session (install_kind s.current c.args.base.now.number c.args.table c.args.column) s.current ∷ []) c.self.view_is
+    (laid_turn c.self.inside.turns.items c.add_turn-2.new.turns.items c.args.session now c.args.base.now.number c.args.table c.args.column c.max-number.result made.what made.changes c.in_ok-add_turn-2.ensures.added
+    (c.in_ok-made.ensures.what ∙ ap (λ (d : Database). Installed (suc d.number) c.args.table c.args.column) c.version-3.ensures)
+    (c.in_ok-made.ensures.changes ∙ ap (install_changes c.args.table.0 c.args.column.0) c.version-3.ensures) number_is fresh)
 
 pub returns-clause-current : goal.returns-clause-current
-returns-clause-current c = ?
+unfolding changed_by last_change
+returns-clause-current c =
+    let now = c.self.inside.current in
+    let since_is = c.number-since.ensures.value ∙ ap (λ (d : Database). d.number) c.version.ensures in
+    let number_is = c.max-number.ensures ∙ ap (λ (s : Stamps). max s.written s.laid) (c.stamps_of-stamps.ensures.stamps ∙ ap (λ (d : Database). stamps_at d.stamps c.args.table.0) c.version-2.ensures) in
+    let fresh : c.max-number.result ≤ c.args.base.now.number = omega (arith, since_is, c.if-since-number.false) in
+    subst (λ (s : Course). c.in_ok-made.made.version ≡ after_turn (install_kind s.current c.args.base.now.number c.args.table c.args.column) s.current) c.self.view_is
+    (laid_current now c.in_ok-made.made.version c.args.base.now.number c.args.table c.args.column c.max-number.result (c.in_ok-made.ensures.version ∙ ap (with_install c.args.table.0 c.args.column.0) c.version-3.ensures) number_is fresh)

@@ -1,5 +1,5 @@
 -- Tables by rank that differ by the balance of their trees alone: operations do the same to them.
-use Rattle.std.proofs.Common.{◌≡◌, ℕ, suc, zero, ◌<◌, ◌≤◌, Bool, true, false, ◌||◌, List, [], ◌∷◌, ◌++◌, length, map, get_or, drop, refl, ap, ap₂, ◌∙◌, sym, arith, subst, eqb}
+use Rattle.std.proofs.Common.{◌≡◌, ℕ, suc, zero, ◌<◌, Bool, true, List, [], ◌∷◌, ◌++◌, length, map, get_or, drop, refl, ap, ap₂, ◌∙◌, sym, arith, subst}
 use Rattle.tree_model.specs.declared.Place.{Place}
 use Rattle.tree_model.specs.Trees.{size}
 use Rattle.tree_model.specs.Places.{holds}

@@ -1,9 +1,8 @@
 -- Where no touched table was written after a version, what fits it fits the current one.
-use Rattle.std.proofs.Common.{◌≡◌, ℕ, suc, zero, ◌+◌, ◌<◌, ◌≤◌, Bool, true, false, ◌&&◌, ltb, max, List, [], ◌∷◌, length, refl, ap, ◌∙◌, sym, arith, subst, inl, inr, Option, Some, None, is_some}
+use Rattle.std.proofs.Common.{◌≡◌, ℕ, suc, zero, ◌+◌, ◌≤◌, Bool, true, false, ◌&&◌, ltb, List, [], ◌∷◌, refl, ap, ◌∙◌, sym, arith, subst, inl, inr, Option, None, is_some}
 use Rattle.std.proofs.lemmas.Bool.{lt-ltb, true≢false, cases_lt}
 use Rattle.mope_base.specs.declared.body.Body.{Body}
 use Rattle.mope_base.specs.declared.numbers.TableNo.{TableNo}
-use Rattle.table_model.specs.Stores.{Shelf}
 use Rattle.table_model.specs.Operations.{RankOp, shelf_at}
 use Rattle.table_model.specs.Fitting.{AllFitAt}
 use Rattle.table_model.specs.ShelfSoundness.{AllSoundShelves}
@@ -14,8 +13,8 @@ use Rattle.versions.specs.Newer.{names, this_or, lowest_newer, last_change}
 use Rattle.versions.specs.Operations.{AllHaveNumbers, OpsFit, HasColumn}
 use Rattle.txn_core.specs.Courses.{AllTouched}
 use Rattle.txn_core.specs.Outcomes.{conflict_on, changed_by}
-use Rattle.txn_core.specs.Since.{SameShelf, IsSince}
-use Rattle.txn_core.proofs.Repeated.{Agree, AllGoOn, columns-many, ops-repeat}
+use Rattle.txn_core.specs.Since.{IsSince}
+use Rattle.txn_core.proofs.Repeated.{Agree, columns-many, ops-repeat}
 
 -- ---- the stamps
 
@@ -55,7 +54,7 @@ agree base current touched since none =
 pub still_fit : (ops : List (RankOp Body)) (base current : Database) (touched : List TableNo) → IsDatabase base → IsDatabase current → IsSince base current → conflict_on current base.number touched ≡ None → AllTouched touched ops → OpsFit ops base → OpsFit ops current
 still_fit ops base current touched base_is current_is since none named fit =
     let sound : AllSoundShelves base.same_time base.limit current.shelves
-        = subst (λ (b : Bool). AllSoundShelves b base.limit current.shelves) (sym since.mode) (subst (λ (n : ℕ). AllSoundShelves current.same_time n current.shelves) (sym since.rows) current_is.sound) in
+    = subst (λ (b : Bool). AllSoundShelves b base.limit current.shelves) (sym since.mode) (subst (λ (n : ℕ). AllSoundShelves current.same_time n current.shelves) (sym since.rows) current_is.sound) in
     let go = ops-repeat touched base.same_time base.limit ops base.shelves current.shelves base_is.sound sound named (agree base current touched since none) (record { fit = fit.fit; numbered = fit.numbered }) in
     record {
       fit = subst (λ (b : Bool). AllFitAt b current.limit ops current.shelves) since.mode (subst (λ (n : ℕ). AllFitAt base.same_time n ops current.shelves) since.rows go.fit);

@@ -1,5 +1,5 @@
 -- The lowest touched table that was written after a version, found table by table.
-use Rattle.std.proofs.Common.{◌≡◌, ℕ, suc, zero, ◌+◌, ◌<◌, ◌≤◌, Bool, true, false, ◌&&◌, ◌||◌, eqb, ltb, List, [], ◌∷◌, length, get_or, drop, refl, ap, ◌∙◌, sym, arith, Option, Some, None}
+use Rattle.std.proofs.Common.{◌≡◌, ℕ, suc, zero, ◌+◌, ◌<◌, ◌≤◌, Bool, true, false, ◌&&◌, ◌||◌, eqb, ltb, List, [], ◌∷◌, length, get_or, drop, refl, ap, ◌∙◌, sym, arith, Some, None}
 use Rattle.mope_base.specs.declared.numbers.TableNo.{TableNo}
 use Rattle.enc_table.specs.declared.stamps.Stamps.{Stamps}
 use Rattle.versions.specs.Databases.{stamps_at}

@@ -1,6 +1,6 @@
 -- What a commit and an install leave of the version before them.
-use Rattle.std.proofs.Common.{◌≡◌, ℕ, suc, zero, ◌<◌, ◌≤◌, Bool, true, false, ◌||◌, List, [], ◌∷◌, length, refl, ap, ◌∙◌, sym, arith, subst, inl, inr, ◌≢◌, eqb, eq-eqb, ne_eqb}
-use Rattle.std.proofs.lemmas.Bool.{cases_eq, eqb-true, true≢false, false≢true, cases_Bool, cases_lt}
+use Rattle.std.proofs.Common.{◌≡◌, ℕ, suc, zero, ◌<◌, ◌≤◌, Bool, true, false, ◌||◌, List, [], ◌∷◌, length, refl, ap, ◌∙◌, sym, arith, subst, inl, inr, ◌≢◌, eqb, eq-eqb}
+use Rattle.std.proofs.lemmas.Bool.{eqb-true, true≢false, false≢true, cases_Bool, cases_lt}
 use Rattle.mope_base.specs.declared.body.Body.{Body}
 use Rattle.tree_model.specs.Items.{change_at}
 use Rattle.tree_model.proofs.Changes.{length-change_at}
@@ -89,7 +89,7 @@ last_on : (number table t : ℕ) (stamps : List Stamps) (later : Stamps) → t �
 unfolding written_at
 last_on number table t stamps later e h is =
     let at : stamps_at (change_at (written_at number) stamps t) table ≡ written_at number (stamps_at stamps table)
-        = subst (λ (k : ℕ). stamps_at (change_at (written_at number) stamps k) table ≡ written_at number (stamps_at stamps table)) (sym e) (stamp-here (written_at number) stamps table h) in
+    = subst (λ (k : ℕ). stamps_at (change_at (written_at number) stamps k) table ≡ written_at number (stamps_at stamps table)) (sym e) (stamp-here (written_at number) stamps table h) in
     ap (λ (s : Stamps). s.written) (is ∙ at)
 
 touched_by : (first rest : Bool) → (first || rest) ≡ true → rest ≡ false → first ≡ true

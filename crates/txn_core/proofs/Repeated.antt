@@ -1,5 +1,5 @@
 -- Operations that fit some tables fit others that are the same, but for balance, where the operations touch them.
-use Rattle.std.proofs.Common.{◌≡◌, ℕ, suc, zero, ◌<◌, ◌^◌, Bool, true, false, ◌||◌, List, [], ◌∷◌, length, map, get_or, drop, refl, ap, ap₂, ◌∙◌, sym, arith, subst, inl, inr, ◌≢◌, eqb}
+use Rattle.std.proofs.Common.{◌≡◌, ℕ, suc, zero, ◌<◌, ◌^◌, Bool, true, List, [], ◌∷◌, length, map, get_or, drop, refl, ap, ◌∙◌, sym, arith, subst, inl, inr, ◌≢◌}
 use Rattle.std.proofs.lemmas.Bool.{cases_eq}
 use Rattle.std.proofs.lemmas.List.{length-map}
 use Rattle.mope_base.specs.declared.numbers.TableNo.{TableNo}
@@ -11,7 +11,7 @@ use Rattle.tree_model.proofs.Changes.{length-change_at}
 use Rattle.table_model.specs.Stores.{Kept, Shelf}
 use Rattle.table_model.specs.Changes.{insert_row, delete_rows}
 use Rattle.table_model.specs.Soundness.{kept_numbers}
-use Rattle.table_model.specs.Operations.{RankOp, InsertAt, DeleteAt, rank_op_on, rank_ops_on, shelf_at}
+use Rattle.table_model.specs.Operations.{RankOp, InsertAt, DeleteAt, rank_op_on, shelf_at}
 use Rattle.table_model.specs.Fitting.{AllAmong, AllPlaced, OpFitsAt, AllFitAt}
 use Rattle.table_model.specs.ShelfSoundness.{SoundShelf, AllSoundShelves}
 use Rattle.table_model.proofs.Following.{length-items}

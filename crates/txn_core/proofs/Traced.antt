@@ -1,5 +1,5 @@
 -- Columns with the same items, whatever the forms of their trees, trace each item alike.
-use Rattle.std.proofs.Common.{◌≡◌, ℕ, suc, zero, ◌+◌, ◌<◌, Bool, true, false, List, [], ◌∷◌, ◌++◌, length, refl, ap, ap₂, ◌∙◌, sym, arith, subst, Option}
+use Rattle.std.proofs.Common.{◌≡◌, ℕ, suc, ◌+◌, Bool, true, false, List, [], ◌∷◌, ◌++◌, length, refl, ap, ap₂, ◌∙◌, sym, arith, subst, Option}
 use Rattle.tree_model.specs.Trees.{Tree, leaf, node, inorder, size}
 use Rattle.tree_model.specs.Items.{Item, AllLive}
 use Rattle.tree_model.specs.Columns.{Column, items_of, Operation, apply, apply_all}

@@ -19,11 +19,7 @@ pub(crate) struct Made {
 }
 
 /// What operations make of a version. They must fit it, and its number must be below 2^63.
-pub(crate) fn make_commit(
-    alloc: Global,
-    current: &Version,
-    ops: &[Op],
-) -> Result<Made, OutOfMemory>
+pub(crate) fn make_commit(alloc: Global, current: &Version, ops: &[Op]) -> Result<Made, OutOfMemory>
     requires fit { OpsFit (rank_ops ops.now) current.now }
     requires number { current.now.number < 2 ^ 63 }
     ensures version { IfOk result (λ made. made.version ≡ with_ops (rank_ops ops.now) current.now) }

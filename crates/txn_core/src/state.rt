@@ -84,12 +84,12 @@ impl State {
     {
         let number = self.current.version().number();
         let snapshot = self.current.again()?;
-        let turn = Turn {
+        let began = Turn {
             session,
             what: TurnKind::Began(number),
             changes: Items::new(*self.turns.allocator()),
         };
-        add_turn(&mut self.turns, turn)?;
+        add_turn(&mut self.turns, began)?;
         Ok(snapshot)
     }
 
@@ -120,12 +120,12 @@ impl State {
         let since = ending.base.version().number();
         match first_conflict(self.current.version(), since, ending.touched) {
             Some((table, number)) => {
-                let turn = Turn {
+                let conflict = Turn {
                     session,
                     what: TurnKind::Conflict { table, number },
                     changes: Items::new(alloc),
                 };
-                add_turn(&mut self.turns, turn)?;
+                add_turn(&mut self.turns, conflict)?;
                 Ok(Committed::Conflict { table, number })
             }
             None => {
@@ -170,12 +170,12 @@ impl State {
         let stamps = stamps_of(self.current.version(), table);
         let number = stamps.written.max(stamps.laid);
         if since < number {
-            let turn = Turn {
+            let stale = Turn {
                 session,
                 what: TurnKind::Stale { table, number },
                 changes: Items::new(alloc),
             };
-            add_turn(&mut self.turns, turn)?;
+            add_turn(&mut self.turns, stale)?;
             return Ok(Installed::Stale { table, number });
         }
         check_room(&self.turns)?;

@@ -1,4 +1,4 @@
-use Rattle.std.proofs.Common.{◌≡◌, List, ap, ap₂, ◌∙◌}
+use Rattle.std.proofs.Common.{List, ap, ap₂, ◌∙◌}
 use Rattle.versions.specs.declared.op.Op.{Op}
 use Rattle.versions.specs.declared.turn.TurnKind.TheVariants.{Committed}
 use Rattle.versions.specs.Databases.{Database}

@@ -1,6 +1,4 @@
 use Rattle.std.proofs.Common.{ap, ◌∙◌}
-use Rattle.mope_base.specs.declared.numbers.ColNo.{ColNo}
-use Rattle.versions.specs.declared.turn.TurnKind.{TurnKind}
 use Rattle.versions.specs.declared.turn.TurnKind.TheVariants.{Installed}
 use Rattle.versions.specs.Databases.{Database}
 use Rattle.versions.specs.Operations.{with_install}

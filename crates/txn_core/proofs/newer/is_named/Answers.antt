@@ -1,4 +1,4 @@
-use Rattle.std.proofs.Common.{◌≡◌, ◌∙◌, sym, arith, eq-eqb, ne_eqb}
+use Rattle.std.proofs.Common.{◌∙◌, sym, arith, eq-eqb, ne_eqb}
 use Rattle.txn_core.proofs.Found.{named_here, not_named_here, named_nowhere}
 use Rattle.txn_core.proofs.newer.is_named.Goals as goal
 

@@ -1,4 +1,4 @@
-use Rattle.std.proofs.Common.{◌≡◌, length, ap, ◌∙◌, sym, arith, inl, inr}
+use Rattle.std.proofs.Common.{length, ap, ◌∙◌, sym, arith, inl, inr}
 use Rattle.std.proofs.lemmas.Bool.{cases_lt, false≢true}
 use Rattle.enc_table.specs.Seen.{Seen, no_stamps}
 use Rattle.versions.specs.Databases.{table_at}

@@ -6,7 +6,6 @@ use Rattle.versions.specs.Operations.{OpsFit, rank_ops, with_ops}
 use Rattle.versions.specs.Turns.{after_turn}
 use Rattle.txn_core.specs.Courses.{Course, IsPast}
 use Rattle.txn_core.specs.Outcomes.{turn_on, conflict_on, commit_kind, commit_answer}
-use Rattle.txn_core.specs.Since.{IsSince}
 use Rattle.txn_core.specs.declared.outcome.Committed.TheVariants as commit
 use Rattle.txn_core.proofs.Clashing.{still_fit}
 use Rattle.txn_core.proofs.Taken.{conflict_answer, conflict_turn, conflict_current, conflict_course, made_answer, made_turn, made_current, made_course, since_past}

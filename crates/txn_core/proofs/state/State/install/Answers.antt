@@ -1,17 +1,16 @@
-use Rattle.std.proofs.Common.{◌≡◌, suc, ◌<◌, ◌≤◌, ◌++◌, ◌∷◌, [], List, max, ap, ◌∙◌, sym, subst, arith}
+use Rattle.std.proofs.Common.{◌≡◌, suc, ◌<◌, ◌≤◌, ◌++◌, ◌∷◌, [], max, ap, ◌∙◌, sym, subst, arith}
 use Rattle.enc_table.specs.declared.stamps.Stamps.{Stamps}
-use Rattle.versions.specs.declared.turn.Turn.{Turn}
 use Rattle.versions.specs.declared.turn.TurnKind.TheVariants.{Installed}
 use Rattle.versions.specs.Changes.{install_changes}
 use Rattle.versions.specs.Databases.{Database, IsDatabase, stamps_at}
 use Rattle.versions.specs.Newer.{last_change}
-use Rattle.versions.specs.Operations.{with_install}
+use Rattle.versions.specs.Operations.{HasColumn, with_install}
 use Rattle.versions.specs.Turns.{after_turn}
-use Rattle.txn_core.specs.Courses.{Course}
+use Rattle.txn_core.specs.Courses.{Course, IsPast}
 use Rattle.txn_core.specs.Outcomes.{turn_on, install_kind, install_answer, changed_by}
-use Rattle.txn_core.specs.Since.{IsCourse}
 use Rattle.txn_core.specs.declared.outcome.Installed.TheVariants as install
-use Rattle.txn_core.proofs.Taken.{stale_answer, stale_turn, stale_current, stale_course, laid_answer, laid_turn, laid_current, laid_course}
+use Rattle.txn_core.proofs.Clashing.{column_stays}
+use Rattle.txn_core.proofs.Taken.{since_past, is_fresh, stale_answer, stale_turn, stale_current, stale_course, laid_answer, laid_turn, laid_current, laid_course}
 use Rattle.txn_core.proofs.state.State.install.Goals as goal
 
 pub invariant_of-self-then-since-number : goal.invariant_of-self-then-since-number
@@ -47,6 +46,18 @@ returns-then-since-number-clause-current c =
     let newer : c.args.base.now.number < c.max-number.result = omega (arith, since_is, c.if-since-number.true) in
     subst (λ (s : Course). now ≡ after_turn (install_kind s.current c.args.base.now.number c.args.table c.args.column) s.current) c.self.view_is
     (stale_current now c.args.base.now.number c.args.table c.args.column c.max-number.result number_is newer)
+
+pub make_install-requires-clause-there : goal.make_install-requires-clause-there
+unfolding changed_by last_change
+make_install-requires-clause-there c =
+    let since_is = c.number-since.ensures.value ∙ ap (λ (d : Database). d.number) c.version.ensures in
+    let number_is = c.max-number.ensures ∙ ap (λ (s : Stamps). max s.written s.laid) (c.stamps_of-stamps.ensures.stamps ∙ ap (λ (d : Database). stamps_at d.stamps c.args.table.0) c.version-2.ensures) in
+    let fresh : c.max-number.result ≤ c.args.base.now.number = omega (arith, since_is, c.if-since-number.false) in
+    let past = subst (λ (s : Course). IsPast s c.args.base.now) (sym c.self.view_is) c.requires.base in
+    subst (λ (d : Database). HasColumn c.args.table.0 c.args.column.0 d) (sym c.version-3.ensures)
+    (column_stays c.args.base.now c.self.inside.current c.args.table c.args.column.0
+    (since_past c.self.inside.first c.self.inside.turns.items c.self.inside.current c.args.base.now past.taken past.within past.leads c.self.invariant)
+    (is_fresh c.self.inside.current c.args.base.now.number c.args.table c.max-number.result number_is fresh) c.requires.there)
 
 pub invariant_of-self-2 : goal.invariant_of-self-2
 invariant_of-self-2 c =

@@ -1,8 +1,7 @@
 -- A state without turns.
-use Rattle.std.proofs.Common.{◌≡◌, ℕ, suc, zero, ◌≤◌, List, [], ◌∷◌, length, take, refl, ap, sym, arith}
-use Rattle.versions.specs.declared.turn.Turn.{Turn}
+use Rattle.std.proofs.Common.{◌≡◌, ℕ, suc, zero, ◌≤◌, List, [], take, refl, arith}
 use Rattle.versions.specs.Databases.{Database}
-use Rattle.versions.specs.Turns.{replay, Replays, AreTold}
+use Rattle.versions.specs.Turns.{replay, AreTold}
 use Rattle.txn_core.specs.Since.{SameShelf, IsSince, IsCourse}
 
 pub shelf-same : {B : Type 0} (s : _) → SameShelf B s s

@@ -1,6 +1,6 @@
 -- What contracts see of a state: the first version, the turns that were taken, the version that they led to, and the places for
 -- further turns that are ready.
-use Rattle.std.specs.Prelude.{◌≡◌, ℕ, suc, ◌+◌, ◌≤◌, Bool, true, List, [], ◌∷◌, length, take, refl}
+use Rattle.std.specs.Prelude.{◌≡◌, ℕ, ◌≤◌, true, List, [], ◌∷◌, length, take, refl}
 use Rattle.std.specs.Coded.{Coded, code_by, coded×, coded_ℕ, coded_list}
 use Rattle.mope_base.specs.declared.numbers.TableNo.{TableNo}
 use Rattle.table_model.specs.Operations.{RankOp}

@@ -1,5 +1,5 @@
 -- What stays of a version in a later one.
-use Rattle.std.specs.Prelude.{◌≡◌, ℕ, suc, ◌+◌, ◌≤◌, List, length, map, take}
+use Rattle.std.specs.Prelude.{◌≡◌, ℕ, suc, ◌≤◌, List, length, map, take}
 use Rattle.mope_base.specs.declared.body.Body.{Body}
 use Rattle.tree_model.specs.Columns.{items_of}
 use Rattle.table_model.specs.Stores.{Shelf}

@@ -1,7 +1,10 @@
 //! The state that sessions take in turn: what happened, and the version that it led to.
 #![tactic(auto)]
 
+mod copies;
 mod history;
+mod making;
+mod newer;
 mod outcome;
 mod state;
 

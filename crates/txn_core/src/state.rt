@@ -6,11 +6,13 @@ ghost use Rattle.versions.specs.Operations.{HasColumn, OpsFit, rank_ops};
 ghost use Rattle.versions.specs.Turns.{Replays, after_turn};
 ghost use Rattle.versions.specs.declared.turn.TurnKind.TheVariants.{Began};
 
+use crate::making::{add_turn, check_room, make_commit, make_install};
+use crate::newer::{first_conflict, stamps_of};
 use crate::outcome::{Committed, Installed};
-use mope_base::{ColNo, OutOfMemory, SessionNo, TableNo};
+use mope_base::{ColNo, Items, OutOfMemory, SessionNo, TableNo};
 use std::alloc::Global;
 use std::marker::Model;
-use versions::{Ending, Snapshot, Turn, Version};
+use versions::{Ending, Snapshot, Turn, TurnKind, Version};
 
 /// The list of the turns that were taken, and the version that they led to from the first one. It is the one value that
 /// sessions share, and each takes it for one turn at a time.
@@ -64,7 +66,10 @@ impl State {
         ensures current { self.new.current ≡ self.old.current }
         ensures unchanged { OnErr result (self.new ≡ self.old) }
     {
-        Err(OutOfMemory)
+        match self.turns.reserve(1) {
+            Ok(()) => Ok(()),
+            Err(_) => Err(OutOfMemory),
+        }
     }
 
     /// A session's transaction begins: it gets a share of the current version. After `OutOfMemory` the state is as it was.
@@ -77,9 +82,15 @@ impl State {
         ensures spare { OnOk result (self.old.spare ≤ self.new.spare + 1) }
         ensures unchanged { OnErr result (self.new ≡ self.old) }
     {
-        let _ = &self.turns;
-        let _session = session;
-        Err(OutOfMemory)
+        let number = self.current.version().number();
+        let snapshot = self.current.again()?;
+        let began = Turn {
+            session,
+            what: TurnKind::Began(number),
+            changes: Items::new(*self.turns.allocator()),
+        };
+        add_turn(&mut self.turns, began)?;
+        Ok(snapshot)
     }
 
     /// A session's transaction ends with operations. It conflicts exactly where a table that it touched was written after its
@@ -105,10 +116,31 @@ impl State {
         ensures spare { OnOk result (self.old.spare ≤ self.new.spare + 1) }
         ensures unchanged { OnErr result (self.new ≡ self.old) }
     {
-        let _ = &self.turns;
-        let _session = session;
-        let _base = ending.base;
-        Err(OutOfMemory)
+        let alloc = *self.turns.allocator();
+        let since = ending.base.version().number();
+        match first_conflict(self.current.version(), since, ending.touched) {
+            Some((table, number)) => {
+                let conflict = Turn {
+                    session,
+                    what: TurnKind::Conflict { table, number },
+                    changes: Items::new(alloc),
+                };
+                add_turn(&mut self.turns, conflict)?;
+                Ok(Committed::Conflict { table, number })
+            }
+            None => {
+                check_room(&self.turns)?;
+                let made = make_commit(alloc, self.current.version(), ending.ops)?;
+                let turn = Turn {
+                    session,
+                    what: made.what,
+                    changes: made.changes,
+                };
+                add_turn(&mut self.turns, turn)?;
+                self.current = made.version;
+                Ok(Committed::Committed(made.number))
+            }
+        }
     }
 
     /// A session balances the tree of a column. It is stale exactly where the table was changed after its begin, by a commit or
@@ -133,12 +165,29 @@ impl State {
         ensures spare { OnOk result (self.old.spare ≤ self.new.spare + 1) }
         ensures unchanged { OnErr result (self.new ≡ self.old) }
     {
-        let _ = &self.turns;
-        let _session = session;
-        let _base = base;
-        let _table = table;
-        let _column = column;
-        Err(OutOfMemory)
+        let alloc = *self.turns.allocator();
+        let since = base.version().number();
+        let stamps = stamps_of(self.current.version(), table);
+        let number = stamps.written.max(stamps.laid);
+        if since < number {
+            let stale = Turn {
+                session,
+                what: TurnKind::Stale { table, number },
+                changes: Items::new(alloc),
+            };
+            add_turn(&mut self.turns, stale)?;
+            return Ok(Installed::Stale { table, number });
+        }
+        check_room(&self.turns)?;
+        let made = make_install(alloc, self.current.version(), table, column)?;
+        let turn = Turn {
+            session,
+            what: made.what,
+            changes: made.changes,
+        };
+        add_turn(&mut self.turns, turn)?;
+        self.current = made.version;
+        Ok(Installed::Installed(made.number))
     }
 
     /// The turns that were taken, in order.

@@ -3,3 +3,4 @@ pub mod Seen
 pub mod Rows
 pub mod Sums
 pub mod Stored
+pub mod Held

@@ -1,8 +1,11 @@
 //! The server's tables of sealed rows.
 #![tactic(auto)]
 
+mod carrying;
 mod cell;
 mod columns;
+mod positions;
+mod ranks;
 mod stamps;
 mod stop;
 mod table;

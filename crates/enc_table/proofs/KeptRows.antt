@@ -143,7 +143,7 @@ same-row width x y xb xr yb yr number ranks bodies =
 
 pub same-kept : (width : ℕ) (xs ys : List (Kept Body)) → AllFull width xs → AllFull width ys → kept_numbers xs ≡ kept_numbers ys
     → ((i : ℕ) → i < width → ranks_at i xs ≡ ranks_at i ys) → ((i : ℕ) → i < width → bodies_at i xs ≡ bodies_at i ys) → xs ≡ ys
-unfolding AllFull kept_numbers ranks_at bodies_at
+unfolding AllFull kept_numbers ranks_at bodies_at later
 same-kept width [] [] xw yw numbers ranks bodies = refl
 same-kept width [] (y ∷ ys) xw yw numbers ranks bodies = absurd (omega (arith, ap (λ (ns : List ℕ). length ns) numbers))
 same-kept width (x ∷ xs) [] xw yw numbers ranks bodies = absurd (omega (arith, ap (λ (ns : List ℕ). length ns) numbers))

@@ -95,11 +95,11 @@ insert-next : (same_time : Bool) (places : List Place) (bodies : List Body) (s :
 unfolding insert_row with_kept operated
 insert-next same_time places bodies s = refl
 
-operated-kept : (same_time : Bool) (steps : List (List (Operation Body))) (s : Shelf Body) → (operated same_time steps s).kept ≡ map (kept_after same_time steps s.columns) s.kept
+pub operated-kept : (same_time : Bool) (steps : List (List (Operation Body))) (s : Shelf Body) → (operated same_time steps s).kept ≡ map (kept_after same_time steps s.columns) s.kept
 unfolding operated
 operated-kept same_time steps s = refl
 
-same-shelf : (s : Shelf Body) (kept : List Row) (next : ℕ) (columns : List (Column Body)) → s.kept ≡ kept → s.next ≡ next → s.columns ≡ columns → s ≡ record { kept = kept; next = next; columns = columns }
+pub same-shelf : (s : Shelf Body) (kept : List Row) (next : ℕ) (columns : List (Column Body)) → s.kept ≡ kept → s.next ≡ next → s.columns ≡ columns → s ≡ record { kept = kept; next = next; columns = columns }
 same-shelf s kept next columns k n c =
     ap (λ (m : ℕ). let t : Shelf Body = record { kept = s.kept; next = m; columns = s.columns } in t) n
     ∙ ap₂ (λ (rows : List Row) (cs : List (Column Body)). let t : Shelf Body = record { kept = rows; next = next; columns = cs } in t) k c

@@ -1,10 +1,11 @@
 -- What is true of the fields of every table, and what the operations on rows do to each stored column.
-use Rattle.std.specs.Prelude.{◌≡◌, ℕ, ◌<◌, ◌≤◌, Bool, List, [], ◌∷◌, ◌++◌, length, map, get_or}
+use Rattle.std.specs.Prelude.{◌≡◌, ℕ, ◌<◌, ◌≤◌, Bool, List, [], ◌∷◌, ◌++◌, length, map, get_or, Some, slice_get}
 use Rattle.mope_base.specs.declared.body.Body.{Body}
 use Rattle.tree_model.specs.declared.Place.{Place}
 use Rattle.tree_model.specs.declared.Place.TheVariants.{Found}
 use Rattle.tree_model.specs.Columns.{Operation, Lay}
 use Rattle.path_code.specs.Sums.{Sum, sum_of}
+use Rattle.enc_table.specs.declared.cell.Cell.{Cell}
 use Rattle.enc_table.specs.declared.columns.Column.{Column as Stored}
 use Rattle.enc_table.specs.declared.stamps.Stamps.{Stamps}
 use Rattle.enc_table.specs.Rows.{no_body}
@@ -62,3 +63,12 @@ after_each (list ∷ lists) (x ∷ xs) = (list ++ x ∷ []) ∷ after_each lists
 -- the other columns agree with the same numbers, and have the same trees, bodies and ranks
 pub record AreCopied (numbers : List ℕ) (before after : List Stored) : Type 0 where
   pub each : (i : ℕ) → i < length before → HasBecome numbers (stored_at before i).tree.column (bodies_in (stored_at before i)) (ranks_in (stored_at before i)) (stored_at after i)
+
+-- ---- a look-up
+
+-- the cell in a column of the row of a number
+pub record IsCellOf (numbers : List ℕ) (columns : List Stored) (row column : ℕ) (cell : Cell) : Type 0 where
+  pub position : ℕ
+  pub there : slice_get numbers position ≡ Some row
+  pub within : column < length columns
+  pub is : slice_get (stored_at columns column).cells position ≡ Some cell

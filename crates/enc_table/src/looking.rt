@@ -1,16 +1,38 @@
 //! What a table's rows have in its columns.
 ghost use Rattle.column_index.specs.Seen.{index_of};
+ghost use Rattle.enc_table.specs.Fields.{AreHeld, IsCellOf};
 ghost use Rattle.enc_table.specs.Rows.{body_at, cells_at, code_at, index_at};
 ghost use Rattle.enc_table.specs.Seen.{IsTable};
-ghost use Rattle.std.specs.Prelude.{◌≡◌, ◌<◌, ◌↔◌, IfSome, IsSome, drop, false, length, take};
+ghost use Rattle.std.specs.Prelude.{◌≡◌, ◌<◌, ◌≤◌, ◌↔◌, ◌⊎◌, IfSome, IsSome, MatchOption, drop, false, length, take};
 ghost use Rattle.table_model.specs.Soundness.{column_at};
+ghost use Rattle.tree_model.specs.Places.{IsIncreasing, holds};
 
 use crate::cell::Cell;
 use crate::positions::position_of;
+use crate::stored_rows::StoredRows;
 use crate::table::Table;
 use column_index::Index;
 use mope_base::{Body, ColNo};
 use ope_tree::Tree;
+
+impl StoredRows {
+    /// The cell of the row of a number in a column: `None` exactly where there is no such row or no such column.
+    pub fn cell(&self, row: u64, column: usize) -> Option<Cell>
+        requires held { AreHeld self.now.numbers self.now.columns.items }
+        requires rise { IsIncreasing self.now.numbers }
+        ensures { MatchOption result
+            ((holds row self.now.numbers ≡ false) ⊎ (length self.now.columns.items ≤ column))
+            (λ cell. IsCellOf self.now.numbers self.now.columns.items row column cell) }
+    {
+        let Some(position) = position_of(&self.numbers, row) else {
+            return None;
+        };
+        let Some(stored) = self.columns.get(column) else {
+            return None;
+        };
+        stored.cells.get(position).copied()
+    }
+}
 
 impl Table {
     /// The cells in a column of some rows from a position on, in order, and of at least one where there is one: those of one
@@ -27,9 +49,7 @@ impl Table {
     pub fn body(&self, row: u64, column: ColNo) -> Option<Body>
         ensures { result ≡ body_at row column.0 self.now.shelf }
     {
-        let position = position_of(&self.rows.numbers, row)?;
-        let stored = self.rows.columns.get(column.0 as usize)?;
-        match stored.cells.get(position) {
+        match self.rows.cell(row, column.0 as usize) {
             None => None,
             Some(cell) => Some(cell.body),
         }
@@ -39,9 +59,7 @@ impl Table {
     pub fn code(&self, row: u64, column: ColNo) -> Option<u64>
         ensures { result ≡ code_at row column.0 self.now.shelf }
     {
-        let position = position_of(&self.rows.numbers, row)?;
-        let stored = self.rows.columns.get(column.0 as usize)?;
-        match stored.cells.get(position) {
+        match self.rows.cell(row, column.0 as usize) {
             None => None,
             Some(cell) => Some(cell.code),
         }

@@ -7,7 +7,7 @@ use Rattle.std.specs.Option.{IsSome}
 use Rattle.std.specs.Prelude.{MatchOption, slice_get}
 use Rattle.mope_base.specs.declared.body.Body.{Body}
 use Rattle.tree_model.specs.Places.{IsIncreasing, IsBelowAll, holds}
-use Rattle.tree_model.specs.Columns.{Column, Operation}
+use Rattle.tree_model.specs.Columns.{Column, Operation, empty_column}
 use Rattle.tree_model.proofs.CarriedRanks.{false_is_true}
 use Rattle.path_code.specs.Sums.{Sum}
 use Rattle.table_model.specs.Stores.{Kept, Shelf}
@@ -264,4 +264,4 @@ unfolding spent_table emptied with_shelf
 spent-later first now rows at changes so =
     let s = delete_rows first.same_time (take at rows) first.shelf in
     ap spent_table so.table
-    ∙ ap₂ (λ (n w : ℕ). let u : Seen = record { shelf = record { kept = []; next = n; columns = replicate w _ }; same_time = first.same_time; limit = first.limit; stamps = first.stamps; spent = true } in u) (rows-next first.same_time (take at rows) first.shelf) (rows-width first.same_time (take at rows) first.shelf)
+    ∙ ap₂ (λ (n w : ℕ). let u : Seen = record { shelf = record { kept = []; next = n; columns = replicate w (empty_column Body) }; same_time = first.same_time; limit = first.limit; stamps = first.stamps; spent = true } in u) (rows-next first.same_time (take at rows) first.shelf) (rows-width first.same_time (take at rows) first.shelf)

@@ -27,10 +27,10 @@ pub record IsOpen (t : Seen) : Type 0 where
   pub below : t.shelf.next < 2 ^ 63
 
 pub open-of : (t : Seen) (result : Bool) → (IsTrue result ↔ IsFull t) → result ≡ false → IsOpen t
-open-of t result full no =
+open-of t result full shut =
     record {
-      few = elim (cases_lt (length t.shelf.kept) t.limit) [ inl h ↦ h | inr h ↦ false_is_true (sym no ∙ full.1 (inl h)) ];
-      below = elim (cases_lt t.shelf.next (2 ^ 63)) [ inl h ↦ h | inr h ↦ false_is_true (sym no ∙ full.1 (inr h)) ];
+      few = elim (cases_lt (length t.shelf.kept) t.limit) [ inl h ↦ h | inr h ↦ false_is_true (sym shut ∙ full.1 (inl h)) ];
+      below = elim (cases_lt t.shelf.next (2 ^ 63)) [ inl h ↦ h | inr h ↦ false_is_true (sym shut ∙ full.1 (inr h)) ];
     }
 
 pub spent-stays : (same_time : Bool) (limit : ℕ) (stamps : Stamps) (next : ℕ) (numbers : List ℕ) (cs : List Stored) (spent : Bool) (t : Seen) → AreFields same_time limit stamps next numbers cs spent → seen_in same_time limit stamps next numbers cs spent ≡ t → spent ≡ true → t ≡ spent_table t

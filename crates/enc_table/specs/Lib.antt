@@ -4,3 +4,4 @@ pub mod Rows
 pub mod Sums
 pub mod Stored
 pub mod Held
+pub mod Marking

@@ -6,6 +6,7 @@ mod cell;
 mod columns;
 mod positions;
 mod ranks;
+pub mod scratch;
 mod stamps;
 mod stop;
 mod table;

@@ -1,0 +1,7 @@
+use Rattle.std.proofs.Common.{refl}
+use Rattle.enc_table.proofs.ItemRanks.{order-carried}
+use Rattle.enc_table.proofs.ColumnLists.{index_removed}
+use Rattle.enc_table.proofs.scratch.lemmas.Goals as goal
+
+pub returns : goal.returns
+returns c = refl

@@ -5,3 +5,4 @@ pub mod Marking
 pub mod NumberRows
 pub mod RowCodes
 pub mod ColumnLists
+pub mod ColumnSteps

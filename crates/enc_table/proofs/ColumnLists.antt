@@ -76,29 +76,31 @@ held-removed x [] (suc place) held = held
 held-removed x (y ∷ ys) zero held = held-cons x y ys held
 held-removed x (y ∷ ys) (suc place) held =
     elim (cases_eq y x) [
-    | inl same ↦ holds-cons_eq x y ys same
-    | inr other ↦ held-cons x y ys (held-removed x ys place (sym (holds-cons_ne x y (remove ys place) other) ∙ held)) ]
+      | inl same ↦ holds-cons_eq x y ys same
+      | inr other ↦ held-cons x y ys (held-removed x ys place (sym (holds-cons_ne x y (remove ys place) other) ∙ held))
+    ]
 
 held_of_last : (x y : ℕ) (xs : List ℕ) → holds x (xs ++ y ∷ []) ≡ true → (holds x xs ≡ true) ⊎ (y ≡ x)
 held_of_last x y [] held = elim (cases_eq y x) [ inl same ↦ inr same | inr other ↦ inl (sym (holds-cons_ne x y [] other) ∙ held) ]
 held_of_last x y (z ∷ zs) held =
     elim (cases_eq z x) [
-    | inl same ↦ inl (holds-cons_eq x z zs same)
-    | inr other ↦ elim (held_of_last x y zs (sym (holds-cons_ne x z (zs ++ y ∷ []) other) ∙ held)) [ inl front ↦ inl (held-cons x z zs front) | inr last ↦ inr last ] ]
+      | inl same ↦ inl (holds-cons_eq x z zs same)
+      | inr other ↦ elim (held_of_last x y zs (sym (holds-cons_ne x z (zs ++ y ∷ []) other) ∙ held)) [ inl front ↦ inl (held-cons x z zs front) | inr last ↦ inr last ]
+    ]
 
 -- one item more at the end
 pub coded-last : {A : Type 0} (t : Tree A) (codes ranks : List ℕ) (rank : ℕ) → AreCoded A t codes ranks → rank < size t → AreCoded A t (codes ++ item_code t rank ∷ []) (ranks ++ rank ∷ [])
 coded-last t codes ranks rank are lt = record {
-    coded = ap (λ (xs : List ℕ). xs ++ item_code t rank ∷ []) are.coded ∙ sym (map-last (item_code t) ranks rank);
-    within = λ other held. elim (held_of_last other rank ranks held) [ inl front ↦ are.within other front | inr last ↦ subst (λ (k : ℕ). k < size t) last lt ];
-  }
+  coded = ap (λ (xs : List ℕ). xs ++ item_code t rank ∷ []) are.coded ∙ sym (map-last (item_code t) ranks rank);
+  within = λ other held. elim (held_of_last other rank ranks held) [ inl front ↦ are.within other front | inr last ↦ subst (λ (k : ℕ). k < size t) last lt ];
+}
 
 -- one item fewer
 pub coded-removed : {A : Type 0} (t : Tree A) (codes ranks : List ℕ) (place : ℕ) → AreCoded A t codes ranks → AreCoded A t (remove codes place) (remove ranks place)
 coded-removed t codes ranks place are = record {
-    coded = ap (λ (xs : List ℕ). remove xs place) are.coded ∙ sym (map-remove (item_code t) ranks place);
-    within = λ other held. are.within other (held-removed other ranks place held);
-  }
+  coded = ap (λ (xs : List ℕ). remove xs place) are.coded ∙ sym (map-remove (item_code t) ranks place);
+  within = λ other held. are.within other (held-removed other ranks place held);
+}
 
 -- the code of the item of a rank is among the tree's
 pub code_among : {A : Type 0} (t : Tree A) (rank : ℕ) → rank < size t → IsIn (item_code t rank) (codes_of t)
@@ -123,8 +125,9 @@ absent_first number n ns none same = let clash : true ≡ false = sym (holds-con
 absent_rest : (number n : ℕ) (ns : List ℕ) → holds number (n ∷ ns) ≡ false → holds number ns ≡ false
 absent_rest number n ns none =
     elim (cases_Bool (holds number ns)) [
-    | inl held ↦ absurd (let clash : true ≡ false = sym (held-cons number n ns held) ∙ none in cc)
-    | inr gone ↦ gone ]
+      | inl held ↦ absurd (let clash : true ≡ false = sym (held-cons number n ns held) ∙ none in cc)
+      | inr gone ↦ gone
+    ]
 
 -- an entry of a row that isn't there
 pub absent_entry : (code number : ℕ) (codes numbers : List ℕ) → holds number numbers ≡ false → holds_entry (record { enc = code; row = number }) (entries_of codes numbers) ≡ false

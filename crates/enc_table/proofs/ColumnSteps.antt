@@ -26,10 +26,10 @@ use Rattle.table_model.proofs.Numbers.{next-new}
 use Rattle.column_index.specs.Entries.{sorted, put, without, holds_entry}
 use Rattle.column_index.specs.Recoding.{KeepsOrder}
 use Rattle.column_index.specs.Seen.{Seen as IndexSeen, index_of}
-use Rattle.ope_tree.specs.Seen.{Seen as TreeSeen}
+use Rattle.ope_tree.specs.Seen.{Seen as TreeSeen, empty_seen}
 use Rattle.enc_table.specs.declared.cell.Cell.{Cell}
 use Rattle.enc_table.specs.declared.columns.Column.{Column as Stored}
-use Rattle.enc_table.specs.Stored.{codes_in, bodies_in, ranks_in, ranks_among, rank_in_row}
+use Rattle.enc_table.specs.Stored.{no_column, codes_in, bodies_in, ranks_in, ranks_among, rank_in_row}
 use Rattle.enc_table.specs.Held.{IsHeld, HasBecome, AreCoded, entries_of, moved_cell, followed, drop_at, FitsDrop}
 use Rattle.enc_table.proofs.ItemRanks.{AllStay, ranks_back, coded-carried, order-carried}
 use Rattle.enc_table.proofs.ColumnLists.{codes-moved, bodies-moved, bodies_of_cells, map-last, map-remove, length-map_list, length-last, length-removed, length-inserted, get_or-mapped, coded-last, coded-removed, code_among, absent_sorted, index_last, index_removed, inserted_apart}
@@ -117,11 +117,11 @@ all_stay_added same_time (Gap at) body c rank lt = (rank_after_operation same_ti
 pub staying_added : (same_time : Bool) (numbers : List ℕ) (place : Place) (body : Body) (c : Stored) → IsHeld numbers c → height (add place body c.tree.column).tree ≤ 63 → AreStaying same_time (Add place body ∷ []) c.tree.column (codes_in c.cells) (ranks_in c)
 unfolding apply_all apply
 staying_added same_time numbers place body c held after = record {
-    coded = held.coded;
-    stay = λ rank among. all_stay_added same_time place body c.tree.column rank (held.coded.within rank among);
-    short = held.short;
-    after = after;
-  }
+  coded = held.coded;
+  stay = λ rank among. all_stay_added same_time place body c.tree.column rank (held.coded.within rank among);
+  short = held.short;
+  after = after;
+}
 
 all_stay_laid : (same_time : Bool) (c : Column Body) (rank : ℕ) → rank < size c.tree → is_origin rank (origins same_time (Lay ∷ []) c) ≡ true
 unfolding stays_after
@@ -130,11 +130,11 @@ all_stay_laid same_time c rank lt = (rank_after_operation same_time Lay c rank l
 pub staying_laid : (same_time : Bool) (numbers : List ℕ) (c : Stored) → IsHeld numbers c → height (lay c.tree.column).tree ≤ 63 → AreStaying same_time (Lay ∷ []) c.tree.column (codes_in c.cells) (ranks_in c)
 unfolding apply_all apply
 staying_laid same_time numbers c held after = record {
-    coded = held.coded;
-    stay = λ rank among. all_stay_laid same_time c.tree.column rank (held.coded.within rank among);
-    short = held.short;
-    after = after;
-  }
+  coded = held.coded;
+  stay = λ rank among. all_stay_laid same_time c.tree.column rank (held.coded.within rank among);
+  short = held.short;
+  after = after;
+}
 
 -- the item at which a row came in is there
 pub added_within : (place : Place) (body : Body) (c : Column Body) → IsPlaceOf (size c.tree) place → rank_in place < size (add place body c).tree
@@ -247,11 +247,11 @@ dropped_code numbers c position cell held read =
 pub staying_dropped : (same_time : Bool) (numbers : List ℕ) (position number : ℕ) (c : Stored) (removed : List Cell) → FitsDrop same_time numbers position number c → removed ≡ remove c.cells position → height (apply_all same_time (drop_at c position) c.tree.column).tree ≤ 63
     → AreStaying same_time (drop_at c position) c.tree.column (codes_in removed) (remove (ranks_in c) position)
 staying_dropped same_time numbers position number c removed fits is after = record {
-    coded = subst (λ (cs : List ℕ). AreCoded (Item Body) c.tree.column.tree cs (remove (ranks_in c) position)) (sym (ap codes_in is ∙ codes-removed c.cells position)) (coded-removed c.tree.column.tree (codes_in c.cells) (ranks_in c) position fits.held.coded);
-    stay = fits.stay;
-    short = fits.held.short;
-    after = after;
-  }
+  coded = subst (λ (cs : List ℕ). AreCoded (Item Body) c.tree.column.tree cs (remove (ranks_in c) position)) (sym (ap codes_in is ∙ codes-removed c.cells position)) (coded-removed c.tree.column.tree (codes_in c.cells) (ranks_in c) position fits.held.coded);
+  stay = fits.stay;
+  short = fits.held.short;
+  after = after;
+}
 
 pub dropped_after : (same_time : Bool) (c : Stored) (position rank : ℕ) (column : Column Body) → rank ≡ rank_in_row c position → column ≡ drop_one same_time rank c.tree.column → column ≡ apply_all same_time (drop_at c position) c.tree.column
 unfolding apply_all apply
@@ -285,3 +285,22 @@ laid_column same_time numbers c moved now tree index held is fresh short moved_i
     let are = staying_laid same_time numbers c held (tree_short tree.column (lay c.tree.column) is short) in
     let parts = parts_carried same_time operations numbers c.tree.column (ranks_in c) moved c.cells now index are moved_is held.many cells_are index_is in
     column_carried same_time operations numbers c.tree.column (bodies_of_cells c.cells) (ranks_in c) now tree index parts is fresh short
+
+-- ---- columns made
+
+pub made_column : (cells : List Cell) (tree : TreeSeen) (index : IndexSeen) → cells ≡ [] → tree ≡ empty_seen false → index ≡ index_of [] → record { cells = cells; tree = tree; index = index } ≡ no_column
+unfolding no_column
+made_column cells tree index no_cells no_tree no_index =
+    ap (λ (cs : List Cell). record { cells = cs; tree = tree; index = index }) no_cells
+    ∙ ap₂ (λ (t : TreeSeen) (i : IndexSeen). record { cells = []; tree = t; index = i }) no_tree no_index
+
+pub copied_column : (numbers : List ℕ) (c : Stored) (cells : List Cell) (tree : TreeSeen) (index : IndexSeen) → IsHeld numbers c → cells ≡ c.cells → tree.column ≡ c.tree.column → tree.spent ≡ false → index ≡ index_of c.index.entries
+    → HasBecome numbers c.tree.column (bodies_in c) (ranks_in c) (record { cells = cells; tree = tree; index = index })
+unfolding bodies_in index_of
+copied_column numbers c cells tree index held cells_are tree_is fresh index_is =
+    let codes = ap codes_in cells_are in
+    column_of_parts numbers cells tree index c.tree.column (bodies_of_cells c.cells) (ranks_in c)
+    (ap length cells_are ∙ held.many) tree_is fresh (subst (λ (k : Column Body). height k.tree ≤ 63) (sym tree_is) held.short)
+    (subst (λ (k : Column Body). AreCoded (Item Body) k.tree (codes_in cells) (ranks_in c)) (sym tree_is) (subst (λ (cs : List ℕ). AreCoded (Item Body) c.tree.column.tree cs (ranks_in c)) (sym codes) held.coded))
+    (index_is ∙ ap (λ (i : IndexSeen). index_of i.entries) held.indexed ∙ ap (λ (cs : List ℕ). index_of (sorted (entries_of cs numbers))) (sym codes))
+    (ap bodies_of_cells cells_are)

@@ -117,17 +117,19 @@ unfolding is_row_within
 within_of entries first zero number h = absurd (let e : false ≡ true = h in cc)
 within_of entries first (suc count) number h =
     elim (or_cases (eqb (row_at entries (first + count)) number) (is_row_within entries first count number) h) [
-    | inl here ↦ record { place = first + count; from = omega arith; before = omega arith; row = eqb-true (row_at entries (first + count)) number here }
-    | inr earlier ↦ (let there = within_of entries first count number earlier in record { place = there.place; from = there.from; before = omega (arith, there.before); row = there.row }) ]
+      | inl here ↦ record { place = first + count; from = omega arith; before = omega arith; row = eqb-true (row_at entries (first + count)) number here }
+      | inr earlier ↦ (let there = within_of entries first count number earlier in record { place = there.place; from = there.from; before = omega (arith, there.before); row = there.row })
+    ]
 
 of_within : (entries : List Entry) (first count number place : ℕ) → first ≤ place → place < first + count → row_at entries place ≡ number → is_row_within entries first count number ≡ true
 unfolding is_row_within
 of_within entries first zero number place from before row = absurd (omega (arith, from, before))
 of_within entries first (suc count) number place from before row =
     elim (cases_lt place (first + count)) [
-    | inl earlier ↦ or_right (eqb (row_at entries (first + count)) number) (is_row_within entries first count number) (of_within entries first count number place from earlier row)
-    | inr last ↦ (let same : place ≡ first + count = omega (arith, last, before) in
-        or_left (eqb (row_at entries (first + count)) number) (is_row_within entries first count number) (eq-eqb (row_at entries (first + count)) number (subst (λ (k : ℕ). row_at entries k ≡ number) same row))) ]
+      | inl earlier ↦ or_right (eqb (row_at entries (first + count)) number) (is_row_within entries first count number) (of_within entries first count number place from earlier row)
+      | inr last ↦ (let same : place ≡ first + count = omega (arith, last, before) in
+          or_left (eqb (row_at entries (first + count)) number) (is_row_within entries first count number) (eq-eqb (row_at entries (first + count)) number (subst (λ (k : ℕ). row_at entries k ≡ number) same row)))
+    ]
 
 -- an entry that is held stands somewhere, and one that stands somewhere is held
 record IsAmongEntries (e : Entry) (entries : List Entry) : Type 0 where
@@ -143,8 +145,9 @@ unfolding holds_entry
 held_at e [] held = absurd (let h : false ≡ true = held in cc)
 held_at e (x ∷ xs) held =
     elim (or_cases (is_same e x) (holds_entry e xs) held) [
-    | inl here ↦ record { place = 0; before = omega arith; is = λ d. same_of_true e x here }
-    | inr later ↦ (let there = held_at e xs later in record { place = suc there.place; before = omega (arith, there.before); is = there.is }) ]
+      | inl here ↦ record { place = 0; before = omega arith; is = λ d. same_of_true e x here }
+      | inr later ↦ (let there = held_at e xs later in record { place = suc there.place; before = omega (arith, there.before); is = there.is })
+    ]
 
 at_held : (e : Entry) (entries : List Entry) (place : ℕ) (d : Entry) → place < length entries → get_or entries place d ≡ e → holds_entry e entries ≡ true
 unfolding holds_entry
@@ -176,10 +179,12 @@ within_of_held code number first last entries range h =
     let code_is : (get_or entries there.place d).enc ≡ code = ap (λ (x : Entry). x.enc) (there.is d) in
     let row_is : row_at entries there.place ≡ number = row_of entries there.place number (ap (λ (x : Entry). x.row) (there.is d)) in
     elim (cases_lt there.place first) [
-    | inl front ↦ absurd (let less = range.before there.place d (omega arith) front in omega (arith, less, code_is))
-    | inr from ↦ elim (cases_lt there.place last) [
+      | inl front ↦ absurd (let less = range.before there.place d (omega arith) front in omega (arith, less, code_is))
+      | inr from ↦ elim (cases_lt there.place last) [
         | inl before ↦ of_within entries first (last - first) number there.place from (omega (arith, before, from)) row_is
-        | inr back ↦ absurd (let more = range.after there.place d back there.before in omega (arith, more, code_is)) ] ]
+        | inr back ↦ absurd (let more = range.after there.place d back there.before in omega (arith, more, code_is))
+      ]
+    ]
 
 pub code_rows : (code first last : ℕ) (entries : List Entry) → IsRange code code entries first last → (number : ℕ) → is_row_within entries first (last - first) number ≡ has_code entries code number
 code_rows code first last entries range number =

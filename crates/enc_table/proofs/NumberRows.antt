@@ -31,21 +31,24 @@ stands_at_point xs number point rise le parts held =
     let at = held_at-below number xs 0 rise held in
     let place = below number xs in
     elim (cases_lt place point) [
-    | inl front ↦ absurd (let less = ltb-true (get_or xs place 0) number (parts.0 place 0 (omega arith) front) in omega (arith, less, at.1))
-    | inr back ↦ elim (cases_lt point place) [
+      | inl front ↦ absurd (let less = ltb-true (get_or xs place 0) number (parts.0 place 0 (omega arith) front) in omega (arith, less, at.1))
+      | inr back ↦ elim (cases_lt point place) [
         | inl before ↦ absurd (
             let less = rises_above xs point place 0 rise before at.0 in
             let yes = lt-ltb (get_or xs point 0) number (omega (arith, less, at.1)) in
             let not = parts.1 point 0 (omega arith) (omega (arith, before, at.0)) in
             let clash : true ≡ false = sym yes ∙ not in cc)
         | inr here ↦ (let same : place ≡ point = omega (arith, back, here) in
-            subst (λ (k : ℕ). slice_get xs k ≡ Some number) same (slice_get-get_or xs place 0 at.0 ∙ ap (λ (x : ℕ). Some x) at.1)) ] ]
+            subst (λ (k : ℕ). slice_get xs k ≡ Some number) same (slice_get-get_or xs place 0 at.0 ∙ ap (λ (x : ℕ). Some x) at.1))
+      ]
+    ]
 
 pub absent_at_point : (xs : List ℕ) (number point : ℕ) → IsIncreasing xs → point ≤ length xs → IsPartitionPoint (λ x. ltb x number ≡ true) (λ x. ltb x number ≡ false) xs point → slice_get xs point ≢ Some number → holds number xs ≡ false
 absent_at_point xs number point rise le parts none =
     elim (cases_Bool (holds number xs)) [
-    | inl held ↦ absurd (none (stands_at_point xs number point rise le parts held))
-    | inr gone ↦ gone ]
+      | inl held ↦ absurd (none (stands_at_point xs number point rise le parts held))
+      | inr gone ↦ gone
+    ]
 
 -- a number that stands somewhere is held
 pub held_of_read : (xs : List ℕ) (place number : ℕ) → slice_get xs place ≡ Some number → holds number xs ≡ true

@@ -116,9 +116,10 @@ unfolding codes_of_entries holds_entry is_same
 entry_of_code code [] held = nowhere code held
 entry_of_code code (e ∷ es) held =
     elim (cases_eq e.enc code) [
-    | inl same ↦ (e.row, rw (eq-eqb code e.enc (sym same)) (rw (eq-eqb e.row e.row refl) refl))
-    | inr other ↦ (let there = entry_of_code code es (held_past code e.enc (codes_of_entries es) other held) in
-        (there.0, or_right ((eqb code e.enc) && (eqb there.0 e.row)) (holds_entry (record { enc = code; row = there.0 }) es) there.1)) ]
+      | inl same ↦ (e.row, rw (eq-eqb code e.enc (sym same)) (rw (eq-eqb e.row e.row refl) refl))
+      | inr other ↦ (let there = entry_of_code code es (held_past code e.enc (codes_of_entries es) other held) in
+          (there.0, or_right ((eqb code e.enc) && (eqb there.0 e.row)) (holds_entry (record { enc = code; row = there.0 }) es) there.1))
+    ]
 
 code_of_entry : (code row : ℕ) (codes numbers : List ℕ) → holds_entry (record { enc = code; row = row }) (entries_of codes numbers) ≡ true → IsIn code codes
 unfolding holds_entry is_same entries_of
@@ -126,8 +127,9 @@ code_of_entry code row [] numbers held = absurd (let h : false ≡ true = held i
 code_of_entry code row (c ∷ codes) [] held = absurd (let h : false ≡ true = held in cc)
 code_of_entry code row (c ∷ codes) (n ∷ ns) held =
     elim (cases_eq c code) [
-    | inl same ↦ holds-cons_eq code c codes same
-    | inr other ↦ held-cons code c codes (code_of_entry code row codes ns (rest_held (eqb code c) (eqb row n) (holds_entry (record { enc = code; row = row }) (entries_of codes ns)) (ne_eqb code c (λ same. other (sym same))) held)) ]
+      | inl same ↦ holds-cons_eq code c codes same
+      | inr other ↦ held-cons code c codes (code_of_entry code row codes ns (rest_held (eqb code c) (eqb row n) (holds_entry (record { enc = code; row = row }) (entries_of codes ns)) (ne_eqb code c (λ same. other (sym same))) held))
+    ]
 
 pub index_code : (code : ℕ) (codes numbers : List ℕ) → IsIn code (codes_of_entries (sorted (entries_of codes numbers))) → IsIn code codes
 index_code code codes numbers held =

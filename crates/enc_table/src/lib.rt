@@ -6,7 +6,6 @@ mod cell;
 mod columns;
 mod positions;
 mod ranks;
-pub mod scratch;
 mod stamps;
 mod stop;
 mod table;

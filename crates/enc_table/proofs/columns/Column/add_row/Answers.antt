@@ -27,8 +27,8 @@ insert-requires c = absent_in_index c.carry.new.index (map (new_code c.moved.res
 
 pub returns-clause-column : goal.returns-clause-column
 returns-clause-column c = λ same_time. record {
-    is = added_column same_time c.args.numbers.now c.args.number c.args.place c.args.body c.args.self.now c.moved.result.now c.carry.new.cells c.push.new.self c.insert_at.new.self c.carry.new.index c.insert.new.self c.code_at_place-code.result
+  is = added_column same_time c.args.numbers.now c.args.number c.args.place c.args.body c.args.self.now c.moved.result.now c.carry.new.cells c.push.new.self c.insert_at.new.self c.carry.new.index c.insert.new.self c.code_at_place-code.result
       c.requires.held c.requires.is_place c.in_ok-change.ensures.column c.in_ok-change.ensures.fresh c.in_ok-change.ensures.short
       (c.moved.ensures.value ∙ ap (λ (s : Sum). s.moved) (c.in_ok-change.ensures.change same_time)) c.in_ok-carry.ensures.cells c.in_ok-carry.ensures.index
       c.code_at_place-code.ensures (ok_of c.push.result c.push.ensures.ok (sym c.is_err.ensures.value ∙ c.if-is_err.false)) c.in_ok-insert.ensures.ok;
-  }
+}

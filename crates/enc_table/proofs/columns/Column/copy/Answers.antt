@@ -1,12 +1,5 @@
-use Rattle.std.proofs.Common.{rules, ◌≡◌, ℕ, Bool, List, [], ◌∷◌, IfOk, OnOk, ◌+◌, ◌-◌, ◌*◌, ◌<◌, ◌≤◌, length, ◌/◌, ◌%◌, true, false, nat_eq, nat_lt, ◌++◌, slice_index_or, slice_set, bit_and, bit_or, Fits, w8, w32, w64, Bor, MutBor}
-use Rattle.enc_table.specs.Held.{FitsAdd, FitsDrop, HasBecome, IsAdded, IsDropped, IsHeld, IsLaid, drop_at}
-use Rattle.enc_table.specs.Stored.{bodies_in, no_column, ranks_in}
-use Rattle.mope_base.specs.Modes.{is_same_time}
-use Rattle.path_code.specs.Sums.{sum_of}
-use Rattle.tree_model.specs.Columns.{Add, Lay}
-use Rattle.tree_model.specs.Places.{IsIncreasing}
+use Rattle.enc_table.proofs.ColumnSteps.{copied_column}
 use Rattle.enc_table.proofs.columns.Column.copy.Goals as goal
 
--- src/columns.rt:41:5
 pub returns-in-Ok : goal.returns-in-Ok
-returns-in-Ok c = ?
+returns-in-Ok c = λ numbers held. copied_column numbers c.args.self.now c.in-Ok.cells c.in_ok-tree.tree c.in_ok-index.index held c.in-Ok.ensures c.in_ok-tree.ensures.column c.in_ok-tree.ensures.fresh c.in_ok-index.ensures.ok

@@ -1,12 +1,10 @@
-use Rattle.std.proofs.Common.{rules, ◌≡◌, ℕ, Bool, List, [], ◌∷◌, IfOk, OnOk, ◌+◌, ◌-◌, ◌*◌, ◌<◌, ◌≤◌, length, ◌/◌, ◌%◌, true, false, nat_eq, nat_lt, ◌++◌, slice_index_or, slice_set, bit_and, bit_or, Fits, w8, w32, w64, Bor, MutBor}
-use Rattle.enc_table.specs.Held.{FitsAdd, FitsDrop, HasBecome, IsAdded, IsDropped, IsHeld, IsLaid, drop_at}
-use Rattle.enc_table.specs.Stored.{bodies_in, no_column, ranks_in}
-use Rattle.mope_base.specs.Modes.{is_same_time}
-use Rattle.path_code.specs.Sums.{sum_of}
-use Rattle.tree_model.specs.Columns.{Add, Lay}
-use Rattle.tree_model.specs.Places.{IsIncreasing}
+use Rattle.std.proofs.Common.{ap, ◌≡◌, ◌∙◌, List}
+use Rattle.column_index.specs.Seen.{Seen as IndexSeen}
+use Rattle.ope_tree.specs.Seen.{Seen as TreeSeen}
+use Rattle.enc_table.specs.declared.cell.Cell.{Cell}
+use Rattle.enc_table.specs.declared.columns.Column.{Column as Stored}
+use Rattle.enc_table.proofs.ColumnSteps.{made_column}
 use Rattle.enc_table.proofs.columns.Column.new.Goals as goal
 
--- src/columns.rt:30:5
 pub returns : goal.returns
-returns c = ?
+returns c = made_column c.new.result c.new-2.result c.new-3.result c.new.ensures c.new-2.ensures c.new-3.ensures

@@ -6,3 +6,10 @@ pub mod NumberRows
 pub mod RowCodes
 pub mod ColumnLists
 pub mod ColumnSteps
+-- Lemmas.
+pub mod TableLists
+pub mod TableAdding
+pub mod TableDropping
+pub mod TableMaking
+pub mod KeptRows
+pub mod KeptSteps

@@ -5,3 +5,4 @@ pub mod Sums
 pub mod Stored
 pub mod Held
 pub mod Marking
+pub mod Fields

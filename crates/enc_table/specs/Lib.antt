@@ -4,4 +4,5 @@ pub mod Rows
 pub mod Sums
 pub mod Stored
 pub mod Held
+pub mod Marking
 pub mod Fields

@@ -4,8 +4,9 @@ ghost use Rattle.column_index.specs.Entries.{sorted};
 ghost use Rattle.column_index.specs.Recoding.{KeepsOrder};
 ghost use Rattle.column_index.specs.Seen.{index_of};
 ghost use Rattle.enc_table.specs.Held.{entries_of, moved_cell};
+ghost use Rattle.enc_table.specs.Marking.{has_code, is_number, marked};
 ghost use Rattle.enc_table.specs.Stored.{codes_in};
-ghost use Rattle.std.specs.Prelude.{◌≡◌, OnOk, length, map};
+ghost use Rattle.std.specs.Prelude.{◌≡◌, OnOk, length, map, slice_get};
 ghost use Rattle.tree_model.specs.Places.{IsIncreasing};
 
 use crate::cell::Cell;
@@ -15,17 +16,28 @@ use cow_pages::Paged;
 use mope_base::OutOfMemory;
 use path_code::Recode;
 
-/// Gives the row of a number, if it is there, a new code.
+/// The cell at a position: `None` exactly where there are no more cells than that.
+pub fn cell_at(cells: &Paged<Cell>, position: usize) -> Option<Cell>
+    ensures { result ≡ slice_get cells.now position }
+{
+    cells.get(position).copied()
+}
+
+/// Gives the row of a number, if it is there, another code.
 fn recode_row(
     cells: &mut Paged<Cell>,
     numbers: &Paged<u64>,
     number: u64,
     code: u64,
-) -> Result<(), OutOfMemory> {
+) -> Result<(), OutOfMemory>
+    requires many { length cells.old ≡ length numbers.now }
+    requires rise { IsIncreasing numbers.now }
+    ensures { OnOk result (cells.new ≡ marked (is_number number) code numbers.now cells.old) }
+{
     let Some(position) = position_of(numbers, number) else {
         return Ok(());
     };
-    let cell = cells.run_at(position)[0];
+    let cell = cell_at(cells, position).unwrap();
     let moved = Cell {
         body: cell.body,
         code,
@@ -36,13 +48,17 @@ fn recode_row(
     }
 }
 
-/// Gives the rows of one code its new one. They are found by the index, which still has the old codes.
+/// Gives the rows of one code another one. They are found by the index, which still has the old codes.
 fn recode_one(
     cells: &mut Paged<Cell>,
     index: &Index,
     numbers: &Paged<u64>,
     pair: Recode,
-) -> Result<(), OutOfMemory> {
+) -> Result<(), OutOfMemory>
+    requires many { length cells.old ≡ length numbers.now }
+    requires rise { IsIncreasing numbers.now }
+    ensures { OnOk result (cells.new ≡ marked (has_code index.now.entries pair.old) pair.new numbers.now cells.old) }
+{
     let (first, end) = index.range(pair.old, pair.old);
     'entries: for place in first..end {
         let entry = index.at(place).unwrap();

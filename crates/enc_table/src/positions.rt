@@ -1,5 +1,5 @@
 //! Where rows stand in the order of their numbers.
-ghost use Rattle.std.specs.Prelude.{◌≡◌, MatchOption, Some, false, slice_get, true};
+ghost use Rattle.std.specs.Prelude.{◌≡◌, ◌≢◌, MatchOption, Some, false, slice_get, true};
 ghost use Rattle.tree_model.specs.Places.{IsIncreasing, holds};
 
 use cow_pages::{Cut, Paged};
@@ -20,7 +20,8 @@ impl Cut<u64> for BeforeNumber {
 
 /// Whether a number stands at a position.
 fn stands_at(numbers: &Paged<u64>, position: usize, number: u64) -> bool
-    ensures { result ≡ true → slice_get numbers.now position ≡ Some number }
+    ensures there { result ≡ true → slice_get numbers.now position ≡ Some number }
+    ensures not_there { result ≡ false → slice_get numbers.now position ≢ Some number }
 {
     match numbers.get(position) {
         None => false,

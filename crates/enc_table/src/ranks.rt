@@ -2,17 +2,18 @@
 ghost use Rattle.code_changes.specs.Changes.{IsIn};
 ghost use Rattle.code_changes.specs.Columns.{codes_of};
 ghost use Rattle.path_code.specs.Sums.{item_code};
-ghost use Rattle.std.specs.Prelude.{◌≡◌, ◌<◌};
+ghost use Rattle.std.specs.Prelude.{◌≡◌, ◌<◌, ◌≤◌};
 ghost use Rattle.table_model.specs.Steps.{rank_in};
 ghost use Rattle.tree_model.specs.Places.{below};
-ghost use Rattle.tree_model.specs.Trees.{size};
+ghost use Rattle.tree_model.specs.Trees.{height, size};
 
 use ope_tree::{Place, Tree};
 use path_code::path_of;
 
 /// The rank of the item of a code, which must be an item's.
 pub fn rank_of(tree: &Tree, code: u64) -> u32
-    requires { IsIn code (codes_of tree.now.column.tree) }
+    requires code { IsIn code (codes_of tree.now.column.tree) }
+    requires short { height tree.now.column.tree ≤ 63 }
     ensures rank { result ≡ below code (codes_of tree.now.column.tree) }
     ensures among { result < size tree.now.column.tree }
 {

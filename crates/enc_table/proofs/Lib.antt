@@ -6,7 +6,6 @@ pub mod NumberRows
 pub mod RowCodes
 pub mod ColumnLists
 pub mod ColumnSteps
--- Lemmas.
 pub mod TableLists
 pub mod TableAdding
 pub mod TableDropping

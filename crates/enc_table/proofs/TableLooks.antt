@@ -3,7 +3,7 @@ use Rattle.std.proofs.Common.{◌≡◌, ℕ, suc, zero, ◌<◌, ◌≤◌, Boo
 use Rattle.std.proofs.lemmas.Bool.{cases_lt, cases_Bool, lt-ltb, ltb-true}
 use Rattle.std.proofs.lemmas.List.{length-map, get_or-map, ext_get_or}
 use Rattle.std.proofs.lemmas.Option.{get_or_from_slice_get, slice_get_within, slice_get-get_or, slice_get_past}
-use Rattle.std.specs.Prelude.{slice_get}
+use Rattle.std.specs.Prelude.{MatchOption, slice_get}
 use Rattle.mope_base.specs.declared.body.Body.{Body}
 use Rattle.tree_model.specs.Trees.{Tree, size}
 use Rattle.tree_model.specs.Places.{IsIncreasing, holds}
@@ -180,7 +180,7 @@ unfolding item_codes
 no-codes [] = refl
 no-codes (c ∷ cs) = refl
 
-abbrev IsMissing : List ℕ → List Stored → ℕ → ℕ → Type 0
+abbrev pub IsMissing : List ℕ → List Stored → ℕ → ℕ → Type 0
 IsMissing numbers cs row column = (holds row numbers ≡ false) ⊎ (length cs ≤ column)
 
 pub no-body : (numbers : List ℕ) (next : ℕ) (cs : List Stored) (row column : ℕ) → AreHeld numbers cs → IsMissing numbers cs row column → None ≡ body_at row column (shelf_in numbers next cs)
@@ -234,3 +234,14 @@ has-code numbers next cs row column cell held up found =
     ap (λ (n : ℕ). let o : Option ℕ = Some n in o) (sym ((row-has numbers cs column k held found.within within).code ∙ ap (λ (d : Cell). d.code) one))
     ∙ sym (code-of (trees_in cs) (get_or kept k no_row).ranks column (omega (arith, found.within, length-trees cs)) (wide ∙ sym (length-trees cs)))
     ∙ ap (λ (ns : List ℕ). slice_get (item_codes (trees_in cs) ns) column) (sym ranks)
+
+-- ---- the cell found
+
+pub cell-found : (numbers : List ℕ) (cs : List Stored) (row column position : ℕ) (found : Option Cell) (c : Stored) → AreHeld numbers cs → slice_get numbers position ≡ Some row → column < length cs → c ≡ stored_at cs column → found ≡ slice_get c.cells position
+    → MatchOption found (IsMissing numbers cs row column) (λ cell. IsCellOf numbers cs row column cell)
+cell-found numbers cs row column position found c held there within is e =
+    let cells = (stored_at cs column).cells in
+    let cell = get_or cells position no_cell in
+    let some : slice_get cells position ≡ Some cell = slice_get-get_or cells position no_cell (omega (arith, slice_get_within numbers position row there, (held.each column within).many)) in
+    subst (λ (o : Option Cell). MatchOption o (IsMissing numbers cs row column) (λ d. IsCellOf numbers cs row column d)) (sym (e ∙ ap (λ (d : Stored). slice_get d.cells position) is ∙ some))
+    (record { position = position; there = there; within = within; is = some })

@@ -148,9 +148,9 @@ counts-at c rank = refl
 counted : (c : Column Body) (ranks : List ℕ) (rank : ℕ) → Tallied (range_with_len 0 (size c.tree)) (counts (items_of c)) ranks → holds rank ranks ≡ true → rank < size c.tree → 0 < count_at c rank
 counted c ranks rank tallied held h =
     let is : count_at c rank ≡ tally ranks rank =
-        counts-at c rank ∙ ap (λ (ns : List ℕ). get_or ns rank 0) tallied.counted
-        ∙ get_or-map (tally ranks) (range_with_len 0 (size c.tree)) rank 0 0 (omega (arith, h, length-range_with_len 0 (size c.tree)))
-        ∙ ap (tally ranks) (range-at (size c.tree) rank h) in
+    counts-at c rank ∙ ap (λ (ns : List ℕ). get_or ns rank 0) tallied.counted
+    ∙ get_or-map (tally ranks) (range_with_len 0 (size c.tree)) rank 0 0 (omega (arith, h, length-range_with_len 0 (size c.tree)))
+    ∙ ap (tally ranks) (range-at (size c.tree) rank h) in
     omega (arith, is, tally-held rank ranks held)
 
 row-held : (c : Stored) (position : ℕ) → position < length (ranks_in c) → holds (rank_in_row c position) (ranks_in c) ≡ true
@@ -233,28 +233,28 @@ deleted-shelf same_time limit next numbers cs after position number sound held h
     let width : length (delete_row same_time number s).columns ≡ length cs = delete-width same_time number s ∙ trees in
     let ranks = sound_has_ranks same_time limit s sound in
     let rows : (delete_row same_time number s).kept ≡ kept_in left after =
-        same-kept (length cs) (delete_row same_time number s).kept (kept_in left after)
-        (subst (λ (n : ℕ). AllFull n (delete_row same_time number s).kept) width result.full)
-        (subst (λ (n : ℕ). AllFull n (kept_in left after)) many now.width)
-        (ap (λ (rs : List Row). kept_numbers rs) (delete-kept same_time number s) ∙ numbers-after same_time steps s.columns (kept_without number s.kept) ∙ gone.numbers_left ∙ sym now.numbers_are)
-        (λ i k.
-            ap (λ (rs : List Row). ranks_at i rs) (delete-kept same_time number s)
-            ∙ delete-ranks same_time number i s (ranks.without number) (omega (arith, k, trees))
-            ∙ ap₂ (λ (operations : List (Operation Body)) (c : Column Body). map (carried (origins same_time operations c)) (ranks_at i (kept_without number s.kept))) (gone.step i k) (trees-at cs i)
-            ∙ ap (λ (ns : List ℕ). followed same_time (drop_at (stored_at cs i) position) (stored_at cs i).tree.column ns) (gone.ranks_left i k)
-            ∙ sym (dropped.each i k).is.ranks_are
-            ∙ sym (now.ranks_are i (omega (arith, k, many))))
-        (λ i k.
-            ap (λ (rs : List Row). bodies_at i rs) (delete-kept same_time number s) ∙ bodies-after same_time steps s.columns i (kept_without number s.kept)
-            ∙ gone.bodies_left i k
-            ∙ sym (dropped.each i k).is.bodies_are
-            ∙ sym (now.bodies_are i (omega (arith, k, many))))
+    same-kept (length cs) (delete_row same_time number s).kept (kept_in left after)
+    (subst (λ (n : ℕ). AllFull n (delete_row same_time number s).kept) width result.full)
+    (subst (λ (n : ℕ). AllFull n (kept_in left after)) many now.width)
+    (ap (λ (rs : List Row). kept_numbers rs) (delete-kept same_time number s) ∙ numbers-after same_time steps s.columns (kept_without number s.kept) ∙ gone.numbers_left ∙ sym now.numbers_are)
+    (λ i k.
+    ap (λ (rs : List Row). ranks_at i rs) (delete-kept same_time number s)
+    ∙ delete-ranks same_time number i s (ranks.without number) (omega (arith, k, trees))
+    ∙ ap₂ (λ (operations : List (Operation Body)) (c : Column Body). map (carried (origins same_time operations c)) (ranks_at i (kept_without number s.kept))) (gone.step i k) (trees-at cs i)
+    ∙ ap (λ (ns : List ℕ). followed same_time (drop_at (stored_at cs i) position) (stored_at cs i).tree.column ns) (gone.ranks_left i k)
+    ∙ sym (dropped.each i k).is.ranks_are
+    ∙ sym (now.ranks_are i (omega (arith, k, many))))
+    (λ i k.
+    ap (λ (rs : List Row). bodies_at i rs) (delete-kept same_time number s) ∙ bodies-after same_time steps s.columns i (kept_without number s.kept)
+    ∙ gone.bodies_left i k
+    ∙ sym (dropped.each i k).is.bodies_are
+    ∙ sym (now.bodies_are i (omega (arith, k, many))))
     in
     let columns : (delete_row same_time number s).columns ≡ trees_in after =
-        delete-columns same_time number s
-        ∙ columns-after same_time steps s after ranks.ranked (many ∙ sym trees)
-          (λ i k. let j : i < length cs = omega (arith, k, trees) in
-              (dropped.each i j).is.column_is
-              ∙ sym (ap₂ (λ (operations : List (Operation Body)) (c : Column Body). apply_all same_time operations c) (gone.step i j) (trees-at cs i)))
+    delete-columns same_time number s
+    ∙ columns-after same_time steps s after ranks.ranked (many ∙ sym trees)
+    (λ i k. let j : i < length cs = omega (arith, k, trees) in
+    (dropped.each i j).is.column_is
+    ∙ sym (ap₂ (λ (operations : List (Operation Body)) (c : Column Body). apply_all same_time operations c) (gone.step i j) (trees-at cs i)))
     in
     same-shelf (delete_row same_time number s) (kept_in left after) next (trees_in after) rows (delete-next same_time number s) columns

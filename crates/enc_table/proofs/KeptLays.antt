@@ -110,26 +110,26 @@ laid-shelf same_time limit next numbers cs column d after sound held others laid
     let width : length t.columns ≡ length cs = lay-width same_time column s ∙ trees in
     let ranked = (sound_has_ranks same_time limit s sound).ranked in
     let rows : t.kept ≡ kept_in numbers after =
-        same-kept (length cs) t.kept (kept_in numbers after)
-        (subst (λ (n : ℕ). AllFull n t.kept) width result.full)
-        (subst (λ (n : ℕ). AllFull n (kept_in numbers after)) many now.width)
-        (ap (λ (rs : List Row). kept_numbers rs) (lay-kept same_time column s ∙ operated-kept same_time steps s) ∙ numbers-after same_time steps s.columns s.kept ∙ before.numbers_are ∙ sym now.numbers_are)
-        (λ i h.
-            ap (λ (rs : List Row). ranks_at i rs) (lay-kept same_time column s)
-            ∙ (columns_follow same_time steps s i ranked (omega (arith, h, trees))).ranks_are
-            ∙ ap (λ (c : Column Body). map (carried (origins same_time (get_or steps i []) c)) (ranks_at i s.kept)) (trees-at cs i)
-            ∙ ap (λ (ns : List ℕ). followed same_time (get_or steps i []) (stored_at cs i).tree.column ns) (before.ranks_are i h)
-            ∙ sym (each i h).ranks_are
-            ∙ sym (now.ranks_are i (omega (arith, h, many))))
-        (λ i h.
-            ap (λ (rs : List Row). bodies_at i rs) (lay-kept same_time column s ∙ operated-kept same_time steps s) ∙ bodies-after same_time steps s.columns i s.kept
-            ∙ before.bodies_are i h
-            ∙ sym (each i h).bodies_are
-            ∙ sym (now.bodies_are i (omega (arith, h, many))))
+    same-kept (length cs) t.kept (kept_in numbers after)
+    (subst (λ (n : ℕ). AllFull n t.kept) width result.full)
+    (subst (λ (n : ℕ). AllFull n (kept_in numbers after)) many now.width)
+    (ap (λ (rs : List Row). kept_numbers rs) (lay-kept same_time column s ∙ operated-kept same_time steps s) ∙ numbers-after same_time steps s.columns s.kept ∙ before.numbers_are ∙ sym now.numbers_are)
+    (λ i h.
+    ap (λ (rs : List Row). ranks_at i rs) (lay-kept same_time column s)
+    ∙ (columns_follow same_time steps s i ranked (omega (arith, h, trees))).ranks_are
+    ∙ ap (λ (c : Column Body). map (carried (origins same_time (get_or steps i []) c)) (ranks_at i s.kept)) (trees-at cs i)
+    ∙ ap (λ (ns : List ℕ). followed same_time (get_or steps i []) (stored_at cs i).tree.column ns) (before.ranks_are i h)
+    ∙ sym (each i h).ranks_are
+    ∙ sym (now.ranks_are i (omega (arith, h, many))))
+    (λ i h.
+    ap (λ (rs : List Row). bodies_at i rs) (lay-kept same_time column s ∙ operated-kept same_time steps s) ∙ bodies-after same_time steps s.columns i s.kept
+    ∙ before.bodies_are i h
+    ∙ sym (each i h).bodies_are
+    ∙ sym (now.bodies_are i (omega (arith, h, many))))
     in
     let columns : t.columns ≡ trees_in after =
-        operated-columns same_time column s
-        ∙ columns-after same_time steps s after ranked (many ∙ sym trees)
-          (λ i h. (each i (omega (arith, h, trees))).column_is ∙ sym (ap (λ (c : Column Body). apply_all same_time (get_or steps i []) c) (trees-at cs i)))
+    operated-columns same_time column s
+    ∙ columns-after same_time steps s after ranked (many ∙ sym trees)
+    (λ i h. (each i (omega (arith, h, trees))).column_is ∙ sym (ap (λ (c : Column Body). apply_all same_time (get_or steps i []) c) (trees-at cs i)))
     in
     same-shelf t (kept_in numbers after) next (trees_in after) rows (lay-next same_time column s) columns

@@ -128,7 +128,6 @@ kept-is numbers (c ∷ cs) many =
 
 -- ---- rows are told by their numbers, bodies and ranks
 
-
 later : {A : Type 0} → List A → List A
 later [] = []
 later (x ∷ xs) = xs

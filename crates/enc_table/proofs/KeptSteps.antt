@@ -76,7 +76,7 @@ columns-after same_time steps s after ranked many each =
     let wide : length (operate same_time steps s.columns) ≡ length s.columns = length-operate same_time steps s.columns in
     same-columns (operate same_time steps s.columns) (trees_in after) (wide ∙ sym many ∙ sym (length-trees after))
     (λ i h. let k : i < length s.columns = omega (arith, h, wide) in
-        (columns_follow same_time steps s i ranked k).column_is ∙ sym (each i k) ∙ sym (trees-at after i))
+    (columns_follow same_time steps s i ranked k).column_is ∙ sym (each i k) ∙ sym (trees-at after i))
 
 -- ---- one row more
 
@@ -129,32 +129,32 @@ inserted-shelf same_time limit next numbers cs after places bodies sound held pl
     let step : (i : ℕ) → i < length cs → get_or steps i [] ≡ Add (place_at places i) (body_of bodies i) ∷ [] = λ (i : ℕ) (h : i < length cs). adds-at places bodies i (omega (arith, h, wide_places)) (omega (arith, h, wide)) in
     let follows : (i : ℕ) → i < length cs → ColumnFollows Body same_time steps s i = λ (i : ℕ) (h : i < length cs). columns_follow same_time steps s i ranked (omega (arith, h, trees)) in
     let rows : (insert_row same_time places bodies s).kept ≡ kept_in (numbers ++ next ∷ []) after =
-        same-kept (length cs) (insert_row same_time places bodies s).kept (kept_in (numbers ++ next ∷ []) after)
-        (subst (λ (n : ℕ). AllFull n (insert_row same_time places bodies s).kept) width result.full)
-        (subst (λ (n : ℕ). AllFull n (kept_in (numbers ++ next ∷ []) after)) many now.width)
-        (ap (λ (rs : List Row). kept_numbers rs) (insert-kept same_time places bodies s) ∙ numbers-last t.kept row
-        ∙ ap (λ (ns : List ℕ). ns ++ next ∷ []) (ap (λ (rs : List Row). kept_numbers rs) (operated-kept same_time steps s) ∙ numbers-after same_time steps s.columns s.kept ∙ before.numbers_are)
-        ∙ sym now.numbers_are)
-        (λ i h.
-            ap (λ (rs : List Row). ranks_at i rs) (insert-kept same_time places bodies s) ∙ ranks-last i t.kept row
-            ∙ ap₂ (λ (ns : List ℕ) (n : ℕ). ns ++ n ∷ [])
-              ((follows i h).ranks_are
-              ∙ ap₂ (λ (operations : List (Operation Body)) (c : Column Body). map (carried (origins same_time operations c)) (ranks_at i s.kept)) (step i h) (trees-at cs i)
-              ∙ ap (λ (ns : List ℕ). map (carried (origins same_time (Add (place_at places i) (body_of bodies i) ∷ []) (stored_at cs i).tree.column)) ns) (before.ranks_are i h))
-              (rank-of places i (omega (arith, h, wide_places)))
-            ∙ sym (added.each i h).is.ranks_are
-            ∙ sym (now.ranks_are i (omega (arith, h, many))))
-        (λ i h.
-            ap (λ (rs : List Row). bodies_at i rs) (insert-kept same_time places bodies s) ∙ bodies-last i t.kept row
-            ∙ ap (λ (bs : List Body). bs ++ body_of bodies i ∷ []) (ap (λ (rs : List Row). bodies_at i rs) (operated-kept same_time steps s) ∙ bodies-after same_time steps s.columns i s.kept ∙ before.bodies_are i h)
-            ∙ sym (added.each i h).is.bodies_are
-            ∙ sym (now.bodies_are i (omega (arith, h, many))))
+    same-kept (length cs) (insert_row same_time places bodies s).kept (kept_in (numbers ++ next ∷ []) after)
+    (subst (λ (n : ℕ). AllFull n (insert_row same_time places bodies s).kept) width result.full)
+    (subst (λ (n : ℕ). AllFull n (kept_in (numbers ++ next ∷ []) after)) many now.width)
+    (ap (λ (rs : List Row). kept_numbers rs) (insert-kept same_time places bodies s) ∙ numbers-last t.kept row
+    ∙ ap (λ (ns : List ℕ). ns ++ next ∷ []) (ap (λ (rs : List Row). kept_numbers rs) (operated-kept same_time steps s) ∙ numbers-after same_time steps s.columns s.kept ∙ before.numbers_are)
+    ∙ sym now.numbers_are)
+    (λ i h.
+    ap (λ (rs : List Row). ranks_at i rs) (insert-kept same_time places bodies s) ∙ ranks-last i t.kept row
+    ∙ ap₂ (λ (ns : List ℕ) (n : ℕ). ns ++ n ∷ [])
+    ((follows i h).ranks_are
+    ∙ ap₂ (λ (operations : List (Operation Body)) (c : Column Body). map (carried (origins same_time operations c)) (ranks_at i s.kept)) (step i h) (trees-at cs i)
+    ∙ ap (λ (ns : List ℕ). map (carried (origins same_time (Add (place_at places i) (body_of bodies i) ∷ []) (stored_at cs i).tree.column)) ns) (before.ranks_are i h))
+    (rank-of places i (omega (arith, h, wide_places)))
+    ∙ sym (added.each i h).is.ranks_are
+    ∙ sym (now.ranks_are i (omega (arith, h, many))))
+    (λ i h.
+    ap (λ (rs : List Row). bodies_at i rs) (insert-kept same_time places bodies s) ∙ bodies-last i t.kept row
+    ∙ ap (λ (bs : List Body). bs ++ body_of bodies i ∷ []) (ap (λ (rs : List Row). bodies_at i rs) (operated-kept same_time steps s) ∙ bodies-after same_time steps s.columns i s.kept ∙ before.bodies_are i h)
+    ∙ sym (added.each i h).is.bodies_are
+    ∙ sym (now.bodies_are i (omega (arith, h, many))))
     in
     let columns : (insert_row same_time places bodies s).columns ≡ trees_in after =
-        insert-columns same_time places bodies s
-        ∙ columns-after same_time steps s after ranked (many ∙ sym trees)
-          (λ i h. let k : i < length cs = omega (arith, h, trees) in
-              (added.each i k).is.column_is
-              ∙ sym (ap₂ (λ (operations : List (Operation Body)) (c : Column Body). apply_all same_time operations c) (step i k) (trees-at cs i)))
+    insert-columns same_time places bodies s
+    ∙ columns-after same_time steps s after ranked (many ∙ sym trees)
+    (λ i h. let k : i < length cs = omega (arith, h, trees) in
+    (added.each i k).is.column_is
+    ∙ sym (ap₂ (λ (operations : List (Operation Body)) (c : Column Body). apply_all same_time operations c) (step i k) (trees-at cs i)))
     in
     same-shelf (insert_row same_time places bodies s) (kept_in (numbers ++ next ∷ []) after) (suc next) (trees_in after) rows (insert-next same_time places bodies s) columns

@@ -2,7 +2,6 @@
 use Rattle.std.proofs.Common.{◌≡◌, ◌≢◌, ℕ, suc, zero, ◌+◌, ◌<◌, ◌≤◌, Bool, true, List, [], ◌∷◌, ◌++◌, length, map, get_or, take, set, replicate, refl, ap, ap₂, ◌∙◌, sym, subst, arith, add-one}
 use Rattle.std.proofs.lemmas.List.{length-set}
 use Rattle.std.proofs.Math.Seq.{take-suc, take-length}
-
 use Rattle.mope_base.specs.declared.body.Body.{Body}
 use Rattle.tree_model.specs.declared.Place.{Place}
 use Rattle.tree_model.specs.Columns.{Column, Operation, Add}
@@ -35,8 +34,8 @@ add-sum same_time places bodies first at placed wide h =
     let all : length (sums same_time steps (trees_in first)) ≡ length (trees_in first) = length-sums same_time steps (trees_in first) (many ∙ sym trees) in
     take-suc (sums same_time steps (trees_in first)) at no_sum (omega (arith, h, all, trees))
     ∙ ap (λ (s : Sum). take at (sums same_time steps (trees_in first)) ++ s ∷ [])
-      (sums-at same_time steps (trees_in first) at (omega (arith, h, many)) (omega (arith, h, trees))
-      ∙ ap₂ (λ (operations : List (Operation Body)) (c : Column Body). sum_of same_time operations c) (adds-at places bodies at (omega (arith, h, placed)) (omega (arith, h, wide))) (trees-at first at))
+    (sums-at same_time steps (trees_in first) at (omega (arith, h, many)) (omega (arith, h, trees))
+    ∙ ap₂ (λ (operations : List (Operation Body)) (c : Column Body). sum_of same_time operations c) (adds-at places bodies at (omega (arith, h, placed)) (omega (arith, h, wide))) (trees-at first at))
 
 pub added-step : (numbers : List ℕ) (number : ℕ) (places : List Place) (bodies : List Body) (first now : List Stored) (at : ℕ) (changes : List Sum) (c : Stored) (change : Sum)
     → AddedTo numbers number places bodies first now at changes → length places ≡ length first → length bodies ≡ length first → at < length first

@@ -234,7 +234,7 @@ deleted-step first now rows at changes after longer so up h table sum =
     let one : delete_row now.same_time number now.shelf ≡ delete_row first.same_time number s = ap₂ (λ (m : Bool) (r : Shelf Body). delete_row m number r) mode shelf in
     let more : take (suc at) rows ≡ done ++ number ∷ [] = take-suc rows at 0 h in
     let all : delete_row now.same_time number now.shelf ≡ delete_rows first.same_time (take (suc at) rows) first.shelf =
-        one ∙ sym (rows-last first.same_time done number first.shelf) ∙ ap (λ (xs : List ℕ). delete_rows first.same_time xs first.shelf) (sym more) in
+    one ∙ sym (rows-last first.same_time done number first.shelf) ∙ ap (λ (xs : List ℕ). delete_rows first.same_time xs first.shelf) (sym more) in
     let is : after.shelf ≡ delete_row now.same_time number now.shelf = ap (λ (u : Seen). u.shelf) table ∙ with-it (delete_row now.same_time number now.shelf) now in
     record {
       table = table ∙ ap₂ (λ (r : Shelf Body) (u : Seen). with_shelf r u) all so.table ∙ with-twice (delete_rows first.same_time (take (suc at) rows) first.shelf) s first;

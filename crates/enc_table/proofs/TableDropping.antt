@@ -54,7 +54,7 @@ pub dropped-step : (same_time : Bool) (numbers : List ℕ) (position : ℕ) (fir
 dropped-step same_time numbers position first now at lists changes c list so h k column more =
     let here : stored_at now at ≡ stored_at first at = so.rest at (omega arith) in
     let is : list ≡ get_or lists at [] ++ drop_sum same_time position (stored_at first at) ∷ [] =
-        more ∙ ap₂ (λ (xs : List Sum) (b : Stored). xs ++ drop_sum same_time position b ∷ []) (so.same at (omega arith)) here in
+    more ∙ ap₂ (λ (xs : List Sum) (b : Stored). xs ++ drop_sum same_time position b ∷ []) (so.same at (omega arith)) here in
     record {
       many = length-set now at c ∙ so.many;
       done = done-step (λ j d. IsDropped same_time numbers position (stored_at first j) d) now at c (omega (arith, h, so.many)) so.done (subst (λ (b : Stored). IsDropped same_time numbers position b c) here column);
@@ -78,5 +78,5 @@ dropped-changes same_time numbers position first now lists changes so wide =
     let many : length sums ≡ length first = length-drop_sums same_time position first in
     ext_get_or [] changes (after_each lists sums) (so.wide ∙ sym (length-after_each lists sums))
     (λ i h. let k : i < length first = omega (arith, h, so.wide, wide) in
-        so.longer i k ∙ ap (λ (s : Sum). get_or lists i [] ++ s ∷ []) (sym (drop_sums-at same_time position first i k))
-        ∙ sym (after_each-at lists sums no_sum i (omega (arith, h, so.wide)) (omega (arith, k, many))))
+    so.longer i k ∙ ap (λ (s : Sum). get_or lists i [] ++ s ∷ []) (sym (drop_sums-at same_time position first i k))
+    ∙ sym (after_each-at lists sums no_sum i (omega (arith, h, so.wide)) (omega (arith, k, many))))

@@ -94,10 +94,10 @@ cells-seen numbers next cs column held h =
     let many : length (map what kept) ≡ length cells = length-map kept what ∙ is.many ∙ sym (held.each column h).many in
     ext_get_or no_cell (map what kept) cells many
     (λ k below.
-        let within : k < length numbers = omega (arith, below, many, (held.each column h).many) in
-        let has = row-has numbers cs column k held h within in
-        get_or-map what kept k no_row no_cell (omega (arith, within, is.many))
-        ∙ ap₂ (λ (b : Body) (n : ℕ). let cell : Cell = record { body = b; code = n } in cell) has.body has.code)
+    let within : k < length numbers = omega (arith, below, many, (held.each column h).many) in
+    let has = row-has numbers cs column k held h within in
+    get_or-map what kept k no_row no_cell (omega (arith, within, is.many))
+    ∙ ap₂ (λ (b : Body) (n : ℕ). let cell : Cell = record { body = b; code = n } in cell) has.body has.code)
 
 entry_at : (codes numbers : List ℕ) (k : ℕ) (e : Entry) → k < length codes → k < length numbers → get_or (entries_of codes numbers) k e ≡ record { enc = get_or codes k 0; row = get_or numbers k 0 }
 unfolding entries_of
@@ -128,11 +128,11 @@ entries-seen numbers next cs column held h =
     let many : length (map what kept) ≡ length numbers = length-map kept what ∙ is.many in
     ext_get_or no_entry (map what kept) (entries_of (codes_in cells) numbers) (many ∙ sym (length-entries (codes_in cells) numbers codes))
     (λ k below.
-        let within : k < length numbers = omega (arith, below, many) in
-        let has = row-has numbers cs column k held h within in
-        get_or-map what kept k no_row no_entry (omega (arith, within, is.many))
-        ∙ ap₂ (λ (n m : ℕ). let e : Entry = record { enc = n; row = m } in e) (has.code ∙ sym (code-in (stored_at cs column) k (omega (arith, within, (held.each column h).many)))) has.number
-        ∙ sym (entry_at (codes_in cells) numbers k no_entry (omega (arith, within, codes)) within))
+    let within : k < length numbers = omega (arith, below, many) in
+    let has = row-has numbers cs column k held h within in
+    get_or-map what kept k no_row no_entry (omega (arith, within, is.many))
+    ∙ ap₂ (λ (n m : ℕ). let e : Entry = record { enc = n; row = m } in e) (has.code ∙ sym (code-in (stored_at cs column) k (omega (arith, within, (held.each column h).many)))) has.number
+    ∙ sym (entry_at (codes_in cells) numbers k no_entry (omega (arith, within, codes)) within))
 
 pub index-seen : (numbers : List ℕ) (next : ℕ) (cs : List Stored) (column : ℕ) → AreHeld numbers cs → column < length cs → index_at column (shelf_in numbers next cs) ≡ sorted (entries_of (codes_in (stored_at cs column).cells) numbers)
 unfolding index_at

@@ -50,6 +50,6 @@ drop_sums-are same_time numbers cs position number gone =
     let other : length (sums same_time steps (trees_in cs)) ≡ length (trees_in cs) = length-sums same_time steps (trees_in cs) (many ∙ sym trees) in
     ext_get_or no_sum (drop_sums same_time position cs) (sums same_time steps (trees_in cs)) (one ∙ sym (other ∙ trees))
     (λ i h. let k : i < length cs = omega (arith, h, one) in
-        drop_sums-at same_time position cs i k
-        ∙ sym (ap₂ (λ (operations : List (Operation Body)) (c : Column Body). sum_of same_time operations c) (gone.step i k) (trees-at cs i))
-        ∙ sym (sums-at same_time steps (trees_in cs) i (omega (arith, k, many)) (omega (arith, k, trees))))
+    drop_sums-at same_time position cs i k
+    ∙ sym (ap₂ (λ (operations : List (Operation Body)) (c : Column Body). sum_of same_time operations c) (gone.step i k) (trees-at cs i))
+    ∙ sym (sums-at same_time steps (trees_in cs) i (omega (arith, k, many)) (omega (arith, k, trees))))

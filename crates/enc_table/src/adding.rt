@@ -60,7 +60,14 @@ impl StoredRows {
         ensures no_numbers { OnErr result (self.new.numbers ≡ []) }
         ensures no_columns { OnErr result (self.new.columns.items ≡ replicate (length self.old.columns.items) no_column) }
     {
-        match add_to_each(&mut self.columns, alloc, &self.numbers, number, places, bodies) {
+        match add_to_each(
+            &mut self.columns,
+            alloc,
+            &self.numbers,
+            number,
+            places,
+            bodies,
+        ) {
             Ok(changes) => match self.numbers.push(number) {
                 Ok(()) => Ok(changes),
                 Err(_) => {

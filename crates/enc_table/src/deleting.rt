@@ -28,11 +28,7 @@ fn no_changes(alloc: Global, width: usize) -> Result<Vec<Items<Change>>, OutOfMe
 
 impl Table {
     /// One row fewer. What becomes of the codes of each column goes to the end of its list of changes.
-    fn delete_row(
-        &mut self,
-        row: u64,
-        changes: &mut Vec<Items<Change>>,
-    ) -> Result<(), OutOfMemory>
+    fn delete_row(&mut self, row: u64, changes: &mut Vec<Items<Change>>) -> Result<(), OutOfMemory>
         requires live { holds row (kept_numbers self.old.shelf.kept) ≡ true }
         requires wide { length changes.old.items ≡ length self.old.shelf.columns }
         ensures table { OnOk result (self.new ≡ with_shelf (delete_row self.old.same_time row self.old.shelf) self.old) }
@@ -40,7 +36,10 @@ impl Table {
         ensures spent { OnErr result (self.new ≡ spent_table self.old) }
     {
         let position = position_of(&self.rows.numbers, row).unwrap();
-        match self.rows.drop_row(self.alloc, position, row, self.mode, changes) {
+        match self
+            .rows
+            .drop_row(self.alloc, position, row, self.mode, changes)
+        {
             Ok(()) => Ok(()),
             Err(_) => {
                 self.spent = true;

@@ -64,7 +64,14 @@ impl StoredRows {
             self.clear(alloc);
             return Err(OutOfMemory);
         }
-        match drop_from_each(&mut self.columns, changes, &self.numbers, position, number, mode) {
+        match drop_from_each(
+            &mut self.columns,
+            changes,
+            &self.numbers,
+            position,
+            number,
+            mode,
+        ) {
             Ok(()) => Ok(()),
             Err(_) => {
                 self.clear(alloc);

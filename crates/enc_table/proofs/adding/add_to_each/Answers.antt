@@ -31,13 +31,14 @@ columns-preserved c =
     let now = c.columns.columns.items in
     let at = c.columns.at in
     let h : at < length first = omega (arith, c.columns-test.true, c.columns.invariant.0) in
-    let here : stored_at now at ≡ c.index_mut.result.now = stored-read now at c.index_mut.result.now (omega (arith, h, so.many)) c.index_mut.ensures.value in
-    (c.columns.invariant.0,
-    subst (λ (xs : List Sum). AddedTo numbers number places bodies first (set now at c.add_row.new.self) (at + 1) xs) (sym c.in-Ok-push.ensures.ok)
-    (subst (λ (n : ℕ). AddedTo numbers number places bodies first (set now at c.add_row.new.self) n (c.columns.changes ++ c.in-Ok.change ∷ [])) (sym (add-one at))
-    (added-step numbers number places bodies first now at c.columns.changes c.add_row.new.self c.in-Ok.change so c.requires.placed c.requires.wide h
-    (λ same_time. subst (λ (b : Stored). IsAdded same_time numbers number (place_at places at) (body_of bodies at) b c.add_row.new.self) (sym here) (c.in-Ok.ensures.column same_time))
-    (λ same_time. c.in-Ok.ensures.change same_time ∙ ap (λ (b : Stored). sum_of same_time (Add (place_at places at) (body_of bodies at) ∷ []) b.tree.column) (sym here)))))
+    let here : stored_at now at ≡ c.index_mut.result.now = stored-read now at c.index_mut.result.now (omega (arith, h, so.many)) c.index_mut.ensures.value in (
+      c.columns.invariant.0,
+      subst (λ (xs : List Sum). AddedTo numbers number places bodies first (set now at c.add_row.new.self) (at + 1) xs) (sym c.in-Ok-push.ensures.ok)
+          (subst (λ (n : ℕ). AddedTo numbers number places bodies first (set now at c.add_row.new.self) n (c.columns.changes ++ c.in-Ok.change ∷ [])) (sym (add-one at))
+          (added-step numbers number places bodies first now at c.columns.changes c.add_row.new.self c.in-Ok.change so c.requires.placed c.requires.wide h
+          (λ same_time. subst (λ (b : Stored). IsAdded same_time numbers number (place_at places at) (body_of bodies at) b c.add_row.new.self) (sym here) (c.in-Ok.ensures.column same_time))
+          (λ same_time. c.in-Ok.ensures.change same_time ∙ ap (λ (b : Stored). sum_of same_time (Add (place_at places at) (body_of bodies at) ∷ []) b.tree.column) (sym here)))),
+    )
 
 pub returns-clause-changes : goal.returns-clause-changes
 returns-clause-changes c =

@@ -33,12 +33,13 @@ columns-preserved c =
     let h : at < length first = omega (arith, c.columns-test.true, c.columns.invariant.0) in
     let k : at < length lists = omega (arith, h, c.requires.wide) in
     let here : stored_at now at ≡ c.index_mut.result.now = stored-read now at c.index_mut.result.now (omega (arith, h, so.many)) c.index_mut.ensures.value in
-    let list : get_or changes at [] ≡ c.index_mut-in-Ok.result.now = list-read changes at c.index_mut-in-Ok.result.now [] (omega (arith, k, so.wide)) c.index_mut-in-Ok.ensures.value in
-    (c.columns.invariant.0,
-    subst (λ (n : ℕ). DroppedTo same_time numbers position first (set now at c.drop_row.new.self) n lists (set changes at c.push.new.self)) (sym (add-one at))
-    (dropped-step same_time numbers position first now at lists changes c.drop_row.new.self c.push.new.self so h k
-    (subst (λ (b : Stored). IsDropped same_time numbers position b c.drop_row.new.self) (sym here) c.in-Ok.ensures.column)
-    (c.in-Ok-push.ensures.ok ∙ ap₂ (λ (xs : List Sum) (s : Sum). xs ++ s ∷ []) (sym list) (c.in-Ok.ensures.change ∙ ap (drop_sum same_time position) (sym here)))))
+    let list : get_or changes at [] ≡ c.index_mut-in-Ok.result.now = list-read changes at c.index_mut-in-Ok.result.now [] (omega (arith, k, so.wide)) c.index_mut-in-Ok.ensures.value in (
+      c.columns.invariant.0,
+      subst (λ (n : ℕ). DroppedTo same_time numbers position first (set now at c.drop_row.new.self) n lists (set changes at c.push.new.self)) (sym (add-one at))
+          (dropped-step same_time numbers position first now at lists changes c.drop_row.new.self c.push.new.self so h k
+          (subst (λ (b : Stored). IsDropped same_time numbers position b c.drop_row.new.self) (sym here) c.in-Ok.ensures.column)
+          (c.in-Ok-push.ensures.ok ∙ ap₂ (λ (xs : List Sum) (s : Sum). xs ++ s ∷ []) (sym list) (c.in-Ok.ensures.change ∙ ap (drop_sum same_time position) (sym here)))),
+    )
 
 pub returns-clause-changes : goal.returns-clause-changes
 returns-clause-changes c =

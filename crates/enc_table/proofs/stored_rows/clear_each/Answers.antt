@@ -12,10 +12,13 @@ columns-preserved c =
     let now = c.columns.columns.items in
     let at = c.columns.at in
     let so = c.columns.invariant in
-    let h : at < length now = omega (arith, c.columns-test.true, so.0, so.1.0) in
-    (so.0,
-    (length-set now at c.new.result ∙ so.1.0,
-    λ k below. done-step (λ (j : ℕ) (d : Stored). d ≡ no_column) now at c.new.result h so.1.1 c.new.ensures k (omega (arith, below))))
+    let h : at < length now = omega (arith, c.columns-test.true, so.0, so.1.0) in (
+      so.0,
+      (
+        length-set now at c.new.result ∙ so.1.0,
+        λ k below. done-step (λ (j : ℕ) (d : Stored). d ≡ no_column) now at c.new.result h so.1.1 c.new.ensures k (omega (arith, below)),
+      ),
+    )
 
 pub returns : goal.returns
 returns c =

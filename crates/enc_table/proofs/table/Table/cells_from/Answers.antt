@@ -24,7 +24,7 @@ returns-clause-run c =
     let is : stored_at i.rows.columns.items column ≡ c.index.result.now = stored-read i.rows.columns.items column c.index.result.now within c.index.ensures in
     c.run_at.ensures.run
     ∙ ap (λ (cells : List Cell). take (length c.run_at.result.now) (drop c.args.position cells))
-      (ap (λ (d : Stored). d.cells) (sym is) ∙ sym (cells-seen i.rows.numbers i.next i.rows.columns.items column c.self.invariant.held within) ∙ ap (λ (u : Seen). cells_at column u.shelf) c.self.view_is)
+    (ap (λ (d : Stored). d.cells) (sym is) ∙ sym (cells-seen i.rows.numbers i.next i.rows.columns.items column c.self.invariant.held within) ∙ ap (λ (u : Seen). cells_at column u.shelf) c.self.view_is)
 
 pub returns-clause-some : goal.returns-clause-some
 returns-clause-some c = λ h.

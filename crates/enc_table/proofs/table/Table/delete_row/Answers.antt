@@ -74,7 +74,7 @@ returns-in-Ok-clause-changes c =
     let position = c.unwrap-position.result in
     let there = found-at c.position_of.result position c.args.row i.rows.numbers c.position_of.ensures c.unwrap-position.ensures in
     let gone = gone-is i.rows.numbers i.rows.columns.items position c.args.row c.self.invariant.held (rise-of same_time i.limit i.stamps i.next i.rows.numbers i.rows.columns.items i.spent c.self.invariant)
-        (slice_get_within i.rows.numbers position c.args.row there) (get_or_from_slice_get i.rows.numbers position c.args.row 0 there) in
+    (slice_get_within i.rows.numbers position c.args.row there) (get_or_from_slice_get i.rows.numbers position c.args.row 0 there) in
     subst (λ (u : Seen). c.drop_row.new.changes.items ≡ after_each c.args.changes.now.items (sums u.same_time (drops {B = Body} (ranks_of c.args.row u.shelf.kept)) u.shelf.columns)) c.self.view_is
     (c.in-Ok.ensures.changes ∙ ap (λ (xs : List Sum). after_each c.args.changes.now.items xs) (drop_sums-are same_time i.rows.numbers i.rows.columns.items position c.args.row gone))
 

@@ -3,3 +3,6 @@ pub mod Seen
 pub mod Rows
 pub mod Sums
 pub mod Stored
+pub mod Held
+pub mod Marking
+pub mod Fields

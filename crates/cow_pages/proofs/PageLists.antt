@@ -1,5 +1,5 @@
 -- Lists of pages: parts, heights, and the page in which a place is.
-use Rattle.std.proofs.Common.{◌≡◌, ℕ, ◌+◌, suc, zero, ◌<◌, ◌≤◌, List, [], ◌∷◌, ◌++◌, length, take, drop, get_or, refl, ap, ◌∙◌, sym, arith, append_assoc, length-append, add-one}
+use Rattle.std.proofs.Common.{◌≡◌, ℕ, ◌+◌, ◌-◌, suc, zero, ◌<◌, ◌≤◌, List, [], ◌∷◌, ◌++◌, length, take, drop, get_or, refl, ap, ◌∙◌, sym, arith, append_assoc, length-append, add-one}
 use Rattle.std.proofs.lemmas.List.{take-append-drop, drop_more, drop_all, length-take-le, get_or_at}
 use Rattle.cow_pages.specs.Lists.{flat, Below, IsPlace}
 
@@ -117,3 +117,17 @@ last_page (x ∷ xs) place k rest last sum within =
     let none : length (flat (drop (k + 1) pages)) ≡ 0 = ap (λ (zs : List _). length (flat zs)) (drop_all (k + 1) pages (omega arith)) ∙ ap length (flat-nil _) in
     let all = length-flat-take pages k x lt in
     place_of_number pages place k rest x lt sum (omega (arith, all, none)) (λ within'. omega (arith, all, none))
+
+-- with so many items from a place to the end of a page, the page has it
+pub page_before_end : {A : Type 0} (pages : List (ℕ × List A)) (place k after : ℕ) (d : ℕ × List A) → k < length pages → place + after ≡ length (flat (take (k + 1) pages)) → after ≤ length (get_or pages k d).1 → (place < length (flat pages) → 0 < after) → IsPlace pages place k (length (get_or pages k d).1 - after)
+page_before_end pages place k after d lt sum within some =
+    let more = length-flat-take-suc pages k d lt in
+    place_of_number pages place k (length (get_or pages k d).1 - after) d lt (omega (arith, more, sum, within)) (omega arith) (λ below. omega (arith, some below, within))
+
+-- the first page has each place that isn't in a later one
+pub first_page : {A : Type 0} (pages : List (ℕ × List A)) (place after : ℕ) → 0 < length pages → place + after ≡ length (flat (take 1 pages)) → (place < length (flat pages) → 0 < after) → IsPlace pages place 0 place
+unfolding flat
+first_page [] place after lt sum some = absurd (omega arith)
+first_page (x ∷ xs) place after lt sum some =
+    let one : length (flat (take 1 (x ∷ xs))) ≡ length x.1 = length-append x.1 [] ∙ omega arith in
+    place_of_number (x ∷ xs) place 0 place x lt (omega arith) (omega (arith, one, sum)) (λ below. omega (arith, some below, one, sum))

@@ -106,7 +106,7 @@ impl<T: Copy> Link<T> {
                 leaves(alloc, items, edit.split())
             }
             Node::Inner(links) => {
-                let (number, rest) = place_in(links, place);
+                let (number, rest) = place_in(links, place, self.count);
                 let parts = links[number].edited(alloc, rest, edit)?;
                 let links = replaced(alloc, links, number, parts)?;
                 inners(alloc, page.height, links, edit.split())

@@ -54,12 +54,13 @@ impl<T: Copy> Link<T> {
         requires room { length self.old.1 + 1 < 2 ^ 64 }
         ensures { self.new ≡ (if result then (self.old.0, changed edit self.old.1 place) else self.old) }
     {
+        let count = self.count;
         let done = match Arc::get_mut(&mut self.page) {
-            Some(page) => page.edit_in_place(place, edit),
+            Some(page) => page.edit_in_place(place, count, edit),
             None => false,
         };
         if done {
-            self.count = edit.count_after(self.count);
+            self.count = edit.count_after(count);
         }
         done
     }
@@ -67,7 +68,8 @@ impl<T: Copy> Link<T> {
 
 impl<T: Copy> Page<T> {
     #[cycle(edit_in_place)]
-    fn edit_in_place(&mut self, place: usize, edit: Edit<T>) -> bool
+    fn edit_in_place(&mut self, place: usize, count: usize, edit: Edit<T>) -> bool
+        requires all { length self.old.1 ≡ count }
         requires place { HasPlace edit self.old.1 place }
         requires room { length self.old.1 + 1 < 2 ^ 64 }
         ensures { self.new ≡ (if result then (self.old.0, changed edit self.old.1 place) else self.old) }
@@ -75,7 +77,7 @@ impl<T: Copy> Page<T> {
         match &mut self.node {
             Node::Leaf(items) => edit_items(items, place, edit),
             Node::Inner(links) => {
-                let (number, rest) = place_in(links, place);
+                let (number, rest) = place_in(links, place, count);
                 links[number].edit_in_place(rest, edit)
             }
         }

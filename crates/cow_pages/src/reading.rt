@@ -4,8 +4,22 @@ ghost use Rattle.std.specs.Prelude.{◌≡◌, ◌<◌, ◌≤◌, drop, length,
 
 use crate::pages::{Link, Node, Page};
 
-/// In which of these pages a place is, and where in it. The place after all items is in the last page.
-pub fn place_in<T: Copy>(links: &[Link<T>], place: usize) -> (usize, usize)
+/// In which of these pages a place is, and where in it. The place after all items is in the last page. It looks from the nearer
+/// end, so that the newest items of a list that grows at its end are found at once.
+pub fn place_in<T: Copy>(links: &[Link<T>], place: usize, count: usize) -> (usize, usize)
+    requires some { 0 < length links.now }
+    requires all { length (flat links.now) ≡ count }
+    requires within { place ≤ count }
+    ensures { IsPlace links.now place result.0 result.1 }
+{
+    if place < count / 2 {
+        place_from_front(links, place)
+    } else {
+        place_from_back(links, place, count)
+    }
+}
+
+fn place_from_front<T: Copy>(links: &[Link<T>], place: usize) -> (usize, usize)
     requires some { 0 < length links.now }
     requires within { place ≤ length (flat links.now) }
     ensures { IsPlace links.now place result.0 result.1 }
@@ -22,6 +36,25 @@ pub fn place_in<T: Copy>(links: &[Link<T>], place: usize) -> (usize, usize)
     (last, rest)
 }
 
+fn place_from_back<T: Copy>(links: &[Link<T>], place: usize, count: usize) -> (usize, usize)
+    requires some { 0 < length links.now }
+    requires all { length (flat links.now) ≡ count }
+    requires within { place ≤ count }
+    ensures { IsPlace links.now place result.0 result.1 }
+{
+    let mut number = links.len() - 1;
+    let mut after = count - place;
+    'links: while number > 0 {
+        let count = links[number].len();
+        if after <= count {
+            return (number, count - after);
+        }
+        after -= count;
+        number -= 1;
+    }
+    (0, place)
+}
+
 impl<T: Copy> Link<T> {
     /// The items of one leaf from a place on. At least the item of that place is among them.
     pub fn run_at(&self, place: usize) -> &[T]
@@ -33,7 +66,7 @@ impl<T: Copy> Link<T> {
         match &page.node {
             Node::Leaf(items) => &items[place..],
             Node::Inner(links) => {
-                let (number, rest) = place_in(links, place);
+                let (number, rest) = place_in(links, place, self.count);
                 links[number].run_at(rest)
             }
         }

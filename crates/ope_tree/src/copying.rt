@@ -8,7 +8,7 @@ use crate::arena::Arena;
 use crate::building::{join, size_of};
 use mope_base::OutOfMemory;
 
-/// An arena may have two nodes for each item and this many more. So a copy costs no more than the changes that filled the
+/// An arena may have three nodes for each item and this many more. So a copy costs half of the changes that filled the
 /// arena since the last one, and trees of few items aren't copied all the time.
 const SPARE: usize = 64;
 
@@ -32,7 +32,7 @@ pub fn compact(nodes: &mut Arena, root: Option<u32>) -> Result<Option<u32>, OutO
     ensures link { IfOk result (λ link. IsLink nodes.new link) }
     ensures same { IfOk result (λ link. tree_of nodes.new link ≡ tree_of nodes.old root) }
 {
-    if nodes.len() <= 2 * size_of(nodes, root) as usize + SPARE {
+    if nodes.len() <= 3 * size_of(nodes, root) as usize + SPARE {
         return Ok(root);
     }
     let mut fresh = nodes.fresh();

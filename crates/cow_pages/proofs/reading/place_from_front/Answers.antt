@@ -1,7 +1,7 @@
 use Rattle.std.proofs.Common.{◌≡◌, ℕ, ◌+◌, ◌-◌, ◌<◌, length, take, get_or, ap, ◌∙◌, sym, arith}
 use Rattle.cow_pages.specs.Lists.{flat}
 use Rattle.cow_pages.proofs.PageLists.{length-flat-take-suc, place_of_number, last_page}
-use Rattle.cow_pages.proofs.reading.place_in.Goals as goal
+use Rattle.cow_pages.proofs.reading.place_from_front.Goals as goal
 
 pub links-init : goal.links-init
 unfolding flat

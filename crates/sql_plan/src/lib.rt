@@ -1,0 +1,11 @@
+//! Plans: which rows of a table are within bounds on codes, found by its indexes.
+#![tactic(auto)]
+
+mod bounds;
+mod ends;
+pub mod laws;
+mod plans;
+
+pub use bounds::{Bound, Query};
+pub use ends::bound;
+pub use plans::{choose, count, extreme, rows};

@@ -1,0 +1,6 @@
+-- The definitions of a connection.
+pub mod Connections
+pub mod Checks
+pub mod Serving
+pub mod Laws
+pub mod Examples

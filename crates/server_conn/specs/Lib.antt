@@ -2,5 +2,6 @@
 pub mod Connections
 pub mod Checks
 pub mod Serving
+pub mod Logs
 pub mod Laws
 pub mod Examples

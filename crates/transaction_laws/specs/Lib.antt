@@ -1,0 +1,3 @@
+-- What client and connection do together.
+pub mod Meetings
+pub mod Walks

@@ -1,2 +1,4 @@
 pub mod Meeting
 pub mod Walking
+pub mod Shown
+pub mod FindingConstants

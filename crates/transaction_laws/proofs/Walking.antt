@@ -164,10 +164,10 @@ increasing-right l y r up = IsIncreasing-after (map value_in (inorder l)) (value
 -- ---- the walk
 
 -- the same exchanges, told otherwise
-along : (s : Setting) (c : Client) (k : Conn) (log other : List Exchange) (client : Client) (conn : Conn) → log ≡ other → Meets s c k log client conn → Meets s c k other client conn
+pub along : (s : Setting) (c : Client) (k : Conn) (log other : List Exchange) (client : Client) (conn : Conn) → log ≡ other → Meets s c k log client conn → Meets s c k other client conn
 along s c k log other client conn same m = subst (λ (l : List Exchange). Meets s c k l client conn) same m
 
-ending_at : (s : Setting) (c : Client) (k : Conn) (log : List Exchange) (client : Client) (conn other : Conn) → conn ≡ other → Meets s c k log client conn → Meets s c k log client other
+pub ending_at : (s : Setting) (c : Client) (k : Conn) (log : List Exchange) (client : Client) (conn other : Conn) → conn ≡ other → Meets s c k log client conn → Meets s c k log client other
 ending_at s c k log client conn other same m = subst (Meets s c k log client) same m
 
 -- the request leads to this part of the tree

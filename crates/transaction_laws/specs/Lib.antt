@@ -1,3 +1,4 @@
 -- What client and connection do together.
 pub mod Meetings
 pub mod Walks
+pub mod Constants

@@ -1,22 +1,19 @@
 -- Walks for the constants of a statement, one after the other.
-use Rattle.std.proofs.Common.{◌≡◌, ℕ, suc, ◌+◌, ◌<◌, ◌≤◌, List, [], ◌∷◌, ◌++◌, map, length, Option, None, refl, ap, ◌∙◌, sym, subst, arith, append_assoc, append-nil, length-append}
+use Rattle.std.proofs.Common.{◌≡◌, ℕ, suc, List, [], ◌∷◌, ◌++◌, length, Option, None, refl, ap, ◌∙◌, sym, arith, append_assoc, append-nil, length-append}
 use Rattle.mope_base.specs.Lists.{Each}
 use Rattle.mope_base.specs.declared.numbers.TableNo.{TableNo}
 use Rattle.mope_base.specs.declared.numbers.ColNo.{ColNo}
 use Rattle.tree_model.specs.declared.Place.{Place}
-use Rattle.tree_model.specs.Trees.{inorder}
 use Rattle.tree_model.specs.Items.{values}
 use Rattle.tree_model.specs.Columns.{items_of}
 use Rattle.tree_model.specs.Walks.{place_in}
 use Rattle.table_model.specs.Stores.{Store}
 use Rattle.table_model.specs.Soundness.{column_at}
-use Rattle.value_cipher.specs.Cipher.{Cell, value_of}
+use Rattle.value_cipher.specs.Cipher.{Cell}
 use Rattle.walk_proto.specs.declared.messages.Request.TheVariants as request
-use Rattle.proxy.specs.Client.{Setting, Client}
-use Rattle.proxy.specs.Tasks.{Task, looks, looks_then}
-use Rattle.server_conn.specs.Connections.{Mark, Held, Conn, holds}
-use Rattle.server_conn.specs.Checks.{most_marks}
-use Rattle.transaction_laws.specs.Meetings.{Meets, doing}
+use Rattle.proxy.specs.Tasks.{looks, looks_then}
+use Rattle.server_conn.specs.Connections.{Mark, Held, holds}
+use Rattle.transaction_laws.specs.Meetings.{doing}
 use Rattle.transaction_laws.specs.Walks.{value_in, walk_log, marked}
 use Rattle.transaction_laws.specs.Constants.{Shows, store_at, walks_log, place_of, marks_for, with_marks, ConstantsMeet}
 use Rattle.transaction_laws.proofs.Meeting.{meets_nothing, meets_then}
@@ -61,6 +58,6 @@ constants_meet s t (constant ∷ constants) later stores c h shows closed in_tab
     let first = walk_meets s t column constant.1 (looks_then t constants later) tree c h (may_walk s.key stores h t column shows closed in_tables (all.0) (omega (arith, few))) in
     let rest = constants_meet s t constants later stores c h1 (shows-marked s.key stores t column place h shows) (closed-marked t column place h) in_tables all.1 (omega (arith, few, marks-marked t column place h)) in
     let end : with_marks (marks_for t constants store) h1 ≡ with_marks (record { table = t.0; column = column.0; place = place_of store constant } ∷ marks_for t constants store) h =
-        with_marks-cons t column place (marks_for t constants store) h ∙ ap (λ (p : Place). with_marks (record { table = t.0; column = column.0; place = p } ∷ marks_for t constants store) h) (same_place store constant) in
+    with_marks-cons t column place (marks_for t constants store) h ∙ ap (λ (p : Place). with_marks (record { table = t.0; column = column.0; place = p } ∷ marks_for t constants store) h) (same_place store constant) in
     ending_at s (doing (looks t column constant.1 ∷ looks_then t constants later) c) (holds h) (walk_log s.key constant.1 (request.WalkStart t column) tree ++ walks_log s.key t constants store) (doing later c) (holds (with_marks (marks_for t constants store) h1)) (holds (with_marks (record { table = t.0; column = column.0; place = place_of store constant } ∷ marks_for t constants store) h)) (ap holds end)
     (meets_then s (doing (looks t column constant.1 ∷ looks_then t constants later) c) (doing (looks_then t constants later) c) (doing later c) (holds h) (holds h1) (holds (with_marks (marks_for t constants store) h1)) (walk_log s.key constant.1 (request.WalkStart t column) tree) (walks_log s.key t constants store) first rest)

@@ -2,3 +2,4 @@ pub mod Meeting
 pub mod Walking
 pub mod Shown
 pub mod FindingConstants
+pub mod Inserting

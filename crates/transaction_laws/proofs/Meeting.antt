@@ -1,8 +1,6 @@
 -- Meetings exchange by exchange, and one after the other.
-use Rattle.std.proofs.Common.{◌≡◌, Bool, true, List, [], ◌∷◌, ◌++◌, Some, refl, ap, ◌∙◌, sym, subst}
+use Rattle.std.proofs.Common.{◌≡◌, true, List, [], ◌∷◌, ◌++◌, Some, refl, ap, ◌∙◌, sym, subst}
 use Rattle.walk_proto.specs.declared.messages.Exchange.{Exchange}
-use Rattle.walk_proto.specs.declared.messages.Reply.{Reply}
-use Rattle.walk_proto.specs.declared.messages.Request.{Request}
 use Rattle.proxy.specs.Allowed.{allowed}
 use Rattle.proxy.specs.Client.{Setting, Client, wants, hears}
 use Rattle.proxy.specs.Talk.{Talk, AllAllowed, client_after}
@@ -17,8 +15,8 @@ meets_nothing s c k = record { talk = tt; allows = tt; answers = tt; client_is =
 
 -- one exchange, before others
 pub meets_one : (s : Setting) (c : Client) (k : Conn) (e : Exchange) (log : List Exchange) (client : Client) (conn : Conn)
-  → wants s c ≡ Some e.request → allowed c e.reply ≡ true → (serve e.request k).served ≡ replies e.reply
-  → Meets s (hears s c e.reply) (serve e.request k).conn log client conn → Meets s c k (e ∷ log) client conn
+    → wants s c ≡ Some e.request → allowed c e.reply ≡ true → (serve e.request k).served ≡ replies e.reply
+    → Meets s (hears s c e.reply) (serve e.request k).conn log client conn → Meets s c k (e ∷ log) client conn
 unfolding Talk AllAllowed client_after Answers conn_after
 meets_one s c k e log client conn wanted allows answered rest = record {
   talk = (wanted, rest.talk);

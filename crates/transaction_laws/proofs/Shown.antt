@@ -1,16 +1,16 @@
 -- What a transaction has whose tables stand for those of a world.
-use Rattle.std.proofs.Common.{◌≡◌, ℕ, zero, suc, ◌+◌, ◌<◌, ◌≤◌, Bool, true, false, leb, List, [], ◌∷◌, ◌++◌, map, length, get_or, Option, None, refl, ap, ◌∙◌, sym, subst, arith}
+use Rattle.std.proofs.Common.{◌≡◌, ℕ, zero, suc, ◌<◌, Bool, false, List, [], ◌∷◌, map, length, get_or, None, refl, ap, ◌∙◌, sym, arith}
 use Rattle.std.proofs.Math.ListN.{get_or-map}
 use Rattle.std.proofs.lemmas.Bool.{lt-leb}
 use Rattle.std.proofs.lemmas.List.{length-map}
 use Rattle.mope_base.specs.declared.body.Body.{Body}
 use Rattle.mope_base.specs.declared.numbers.TableNo.{TableNo}
 use Rattle.mope_base.specs.declared.numbers.ColNo.{ColNo}
-use Rattle.tree_model.specs.Trees.{Tree, leaf, inorder, height, map_tree}
+use Rattle.tree_model.specs.Trees.{inorder, map_tree}
 use Rattle.tree_model.specs.Places.{IsIncreasing}
-use Rattle.tree_model.specs.Items.{Item, map_item, values}
+use Rattle.tree_model.specs.Items.{map_item, values}
 use Rattle.tree_model.specs.Columns.{Column, empty_column, items_of, map_column}
-use Rattle.table_model.specs.Stores.{Store, Shelf, empty_store, empty_shelf, map_shelf, shelf_of}
+use Rattle.table_model.specs.Stores.{Store, Shelf, empty_store, map_shelf, shelf_of}
 use Rattle.table_model.specs.Soundness.{Sound, column_at}
 use Rattle.table_model.specs.Operations.{AllSound, shelf_at}
 use Rattle.table_model.proofs.Ops.{shelf_at-map}

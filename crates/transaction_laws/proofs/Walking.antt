@@ -1,5 +1,5 @@
 -- A walk, from wherever it has come to.
-use Rattle.std.proofs.Common.{◌≡◌, ◌≢◌, ℕ, zero, suc, ◌+◌, ◌<◌, ◌≤◌, Bool, true, false, not, ◌&&◌, eqb, ltb, leb, max, List, [], ◌∷◌, ◌++◌, map, length, is_some, Option, Some, None, refl, ap, ap₂, ◌∙◌, sym, subst, inl, inr, arith, lt-ltb, le-ltb}
+use Rattle.std.proofs.Common.{◌≡◌, ℕ, suc, ◌+◌, ◌<◌, ◌≤◌, Bool, true, false, not, ◌&&◌, eqb, ltb, leb, List, [], ◌∷◌, map, length, is_some, Option, Some, None, refl, ap, ap₂, ◌∙◌, sym, subst, inl, inr, arith, lt-ltb, le-ltb}
 use Rattle.std.proofs.lemmas.Bool.{cases_order, eq-eqb, ne_eqb, lt-leb}
 use Rattle.mope_base.specs.declared.body.Body.{Body}
 use Rattle.mope_base.specs.declared.numbers.TableNo.{TableNo}
@@ -15,22 +15,21 @@ use Rattle.tree_model.specs.Walks.{place_in}
 use Rattle.tree_model.proofs.Mapped.{size-map_tree}
 use Rattle.tree_model.proofs.SplitPlaces.{after, place-before, place-after, place-middle, IsIncreasing-before, IsIncreasing-after}
 use Rattle.tree_model.proofs.Walked.{values-node, length-values}
-use Rattle.value_cipher.specs.Cipher.{Cell, value_of, sealed, unseal_of}
+use Rattle.value_cipher.specs.Cipher.{Cell, value_of, sealed}
 use Rattle.value_cipher.proofs.CipherLemmas.{unseal_of-sealed}
 use Rattle.walk_proto.specs.declared.messages.Exchange.{Exchange}
 use Rattle.walk_proto.specs.declared.messages.Reply.TheVariants as reply
 use Rattle.walk_proto.specs.declared.messages.Request.{Request}
 use Rattle.walk_proto.specs.declared.messages.Request.TheVariants as request
-
 use Rattle.proxy.specs.Tasks.{Task, looks}
 use Rattle.proxy.specs.Client.{Setting, Stop, Client, wants, first_request, request_for, step_for, step_by, hears, heard_at, heard_by, led_by, stop_below}
 use Rattle.proxy.specs.Allowed.{allowed, is_spelled, fits_first, fits_task, leads_with, may_lead_on}
-use Rattle.server_conn.specs.Connections.{Walk, Held, Conn, holds, replies, Step}
+use Rattle.server_conn.specs.Connections.{Walk, Held, Conn, holds, Step}
 use Rattle.server_conn.specs.Checks.{refusal, checks, first_failing, reason_or, own, lacks_table, lacks_column, most_marks, walk_open, unknown_table, unknown_column, wrong_places}
 use Rattle.table_model.specs.Soundness.{column_at}
 use Rattle.server_conn.specs.Serving.{serve, served_unless, effect, come_to, placed_at, step_to, walk_started, stepped, stepped_from, found, in_front_of_top}
 use Rattle.transaction_laws.specs.Meetings.{Meets, doing}
-use Rattle.transaction_laws.specs.Walks.{exchanged, sealed_item, value_in, onward_by, walk_log, marked, MayWalk, WalkMeets}
+use Rattle.transaction_laws.specs.Walks.{exchanged, sealed_item, value_in, onward_by, walk_log, marked, WalkMeets}
 use Rattle.transaction_laws.proofs.Meeting.{meets_nothing, meets_one}
 
 -- the client with its walk at a stop
@@ -176,7 +175,7 @@ Leads t column key r k before part h = serve r k ≡ come_to t.0 column.0 before
 
 -- an exchange by which a walk ends
 ends_placed : (s : Setting) (t : TableNo) (column : ColNo) (x : ℕ) (later : List Task) (looking : Option Stop) (c : Client) (k : Conn) (r : Request) (h : Held) → step_for x looking t column ≡ r → serve r k ≡ step_to reply.Placed (holds h)
-  → Meets s (stands t column x later looking c) k (exchanged r reply.Placed ∷ []) (doing later c) (holds h)
+    → Meets s (stands t column x later looking c) k (exchanged r reply.Placed ∷ []) (doing later c) (holds h)
 unfolding step_to exchanged
 ends_placed s t column x later looking c k r h step served =
     meets_one s (stands t column x later looking c) k (exchanged r reply.Placed) [] (doing later c) (holds h)
@@ -188,9 +187,9 @@ ends_placed s t column x later looking c k r h step served =
 
 -- an exchange that comes to an item, before the others of a walk
 comes_to_item : (s : Setting) (t : TableNo) (column : ColNo) (x : ℕ) (later : List Task) (looking : Option Stop) (c : Client) (k : Conn) (r : Request) (item : Item Cell) (h : Held) (log : List Exchange) (conn : Conn)
-  → step_for x looking t column ≡ r → may_lead_on x looking ≡ true → serve r k ≡ step_to (reply.Node (sealed s.key item.body)) (holds h)
-  → Meets s (stands t column x later (Some (stop_below looking (value_in item))) c) (holds h) log (doing later c) conn
-  → Meets s (stands t column x later looking c) k (exchanged r (reply.Node (sealed s.key item.body)) ∷ log) (doing later c) conn
+    → step_for x looking t column ≡ r → may_lead_on x looking ≡ true → serve r k ≡ step_to (reply.Node (sealed s.key item.body)) (holds h)
+    → Meets s (stands t column x later (Some (stop_below looking (value_in item))) c) (holds h) log (doing later c) conn
+    → Meets s (stands t column x later looking c) k (exchanged r (reply.Node (sealed s.key item.body)) ∷ log) (doing later c) conn
 unfolding step_to exchanged value_in
 comes_to_item s t column x later looking c k r item h log conn step may served rest =
     meets_one s (stands t column x later looking c) k (exchanged r (reply.Node (sealed s.key item.body))) log (doing later c) conn
@@ -202,11 +201,11 @@ comes_to_item s t column x later looking c k r item h log conn step may served r
 
 -- how a walk goes on at an item, where it does so on either side
 rest_at_item : (s : Setting) (t : TableNo) (column : ColNo) (x : ℕ) (later : List Task) (c : Client) (left : Tree (Item Cell)) (item : Item Cell) (right : Tree (Item Cell)) (before : ℕ) (looking : Option Stop) (h : Held) (lefts rights : List Exchange)
-  → IsIncreasing (map value_in (inorder (node left item right)))
-  → (let part = node (map_tree (sealed_item s.key) left) (sealed_item s.key item) (map_tree (sealed_item s.key) right) in let w : Held = walks t.0 column.0 before part h in
-     (eqb x (value_in item) ≡ false → ltb x (value_in item) ≡ true → Meets s (stands t column x later (Some (stop_below looking (value_in item))) c) (holds w) lefts (doing later c) (holds (marked t column (after before (place_in value_in left x)) w)))
-     → (eqb x (value_in item) ≡ false → ltb x (value_in item) ≡ false → Meets s (stands t column x later (Some (stop_below looking (value_in item))) c) (holds w) rights (doing later c) (holds (marked t column (after (before + suc (size (map_tree (sealed_item s.key) left))) (place_in value_in right x)) w)))
-     → Meets s (stands t column x later (Some (stop_below looking (value_in item))) c) (holds w) (onward_by (eqb x (value_in item)) (ltb x (value_in item)) lefts rights) (doing later c) (holds (marked t column (after before (place_in value_in (node left item right) x)) h)))
+    → IsIncreasing (map value_in (inorder (node left item right)))
+    → (let part = node (map_tree (sealed_item s.key) left) (sealed_item s.key item) (map_tree (sealed_item s.key) right) in let w : Held = walks t.0 column.0 before part h in
+    (eqb x (value_in item) ≡ false → ltb x (value_in item) ≡ true → Meets s (stands t column x later (Some (stop_below looking (value_in item))) c) (holds w) lefts (doing later c) (holds (marked t column (after before (place_in value_in left x)) w)))
+    → (eqb x (value_in item) ≡ false → ltb x (value_in item) ≡ false → Meets s (stands t column x later (Some (stop_below looking (value_in item))) c) (holds w) rights (doing later c) (holds (marked t column (after (before + suc (size (map_tree (sealed_item s.key) left))) (place_in value_in right x)) w)))
+    → Meets s (stands t column x later (Some (stop_below looking (value_in item))) c) (holds w) (onward_by (eqb x (value_in item)) (ltb x (value_in item)) lefts rights) (doing later c) (holds (marked t column (after before (place_in value_in (node left item right) x)) h)))
 unfolding onward_by step_by walks marked
 rest_at_item s t column x later c left item right before looking h lefts rights up to_left to_right =
     let f = sealed_item s.key in
@@ -241,8 +240,8 @@ rest_at_item s t column x later c left item right before looking h lefts rights 
     ]
 
 led : (s : Setting) (t : TableNo) (column : ColNo) (x : ℕ) (later : List Task) (c : Client) (part : Tree (Item Cell)) (before : ℕ) (looking : Option Stop) (r : Request) (h : Held) (k : Conn)
-  → step_for x looking t column ≡ r → Leads t column s.key r k before part h → MayCome x looking part → IsIncreasing (map value_in (inorder part)) → steps_to looking + height part ≤ 63
-  → Meets s (stands t column x later looking c) k (walk_log s.key x r part) (doing later c) (holds (marked t column (after before (place_in value_in part x)) h))
+    → step_for x looking t column ≡ r → Leads t column s.key r k before part h → MayCome x looking part → IsIncreasing (map value_in (inorder part)) → steps_to looking + height part ≤ 63
+    → Meets s (stands t column x later looking c) k (walk_log s.key x r part) (doing later c) (holds (marked t column (after before (place_in value_in part x)) h))
 unfolding walk_log MayCome map_tree height sealed_item step_by
 led s t column x later c leaf before looking r h k step leads may up short =
     let end : marked t column (Gap before) h ≡ marked t column (after before (place_in value_in leaf x)) h = ap (λ (p : Place). marked t column p h) (sym (after-leaf before x)) in
@@ -294,8 +293,8 @@ unfolding serve served_unless refusal checks first_failing effect walk_started
 serve-start t column h closed table there few =
     let no_marks : leb most_marks (length h.marks) ≡ false = lt-leb most_marks (length h.marks) few in
     let passes : refusal (request.WalkStart t column) h ≡ None =
-        ap (λ (w : Option Walk). reason_or (is_some w) walk_open (reason_or (lacks_table h t) unknown_table (reason_or (lacks_column h t column.0) unknown_column (reason_or (leb most_marks (length h.marks)) wrong_places None)))) closed ∙
-        passing table there no_marks in
+    ap (λ (w : Option Walk). reason_or (is_some w) walk_open (reason_or (lacks_table h t) unknown_table (reason_or (lacks_column h t column.0) unknown_column (reason_or (leb most_marks (length h.marks)) wrong_places None)))) closed ∙
+    passing table there no_marks in
     ap (λ (found : Option ℕ). served_unless found (request.WalkStart t column) h) passes
 
 pub walk_meets : WalkMeets

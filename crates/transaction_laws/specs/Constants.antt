@@ -1,6 +1,6 @@
 -- The exchanges by which a client finds the places of the constants of a statement, where the connection's tables stand for those of a
 -- world: tables by value, whose cells the connection has sealed.
-use Rattle.std.specs.Prelude.{◌≡◌, ℕ, ◌+◌, ◌<◌, ◌≤◌, ◌^◌, List, [], ◌∷◌, ◌++◌, length, get_or, Option, None}
+use Rattle.std.specs.Prelude.{◌≡◌, ℕ, ◌+◌, ◌<◌, ◌≤◌, ◌^◌, List, [], ◌∷◌, ◌++◌, length, get_or, None}
 use Rattle.mope_base.specs.Lists.{Each}
 use Rattle.mope_base.specs.declared.body.Body.{Body}
 use Rattle.mope_base.specs.declared.numbers.TableNo.{TableNo}
@@ -52,5 +52,5 @@ with_marks marks h = record h { marks = h.marks ++ marks; walk = None }
 -- a client that looks for constants of a statement finds the place of each among the values of its column
 abbrev pub ConstantsMeet : Type 0
 ConstantsMeet = (s : Setting) (t : TableNo) (constants : List (ColNo × ℕ)) (later : List Task) (stores : List (Store Cell)) (c : Client) (h : Held)
-  → Shows s.key stores h → h.walk ≡ None → t.0 < length stores → Each (λ (constant : ColNo × ℕ). constant.0.0 < length (store_at stores t).columns) constants → length h.marks + length constants ≤ most_marks
-  → Meets s (doing (looks_then t constants later) c) (holds h) (walks_log s.key t constants (store_at stores t)) (doing later c) (holds (with_marks (marks_for t constants (store_at stores t)) h))
+    → Shows s.key stores h → h.walk ≡ None → t.0 < length stores → Each (λ (constant : ColNo × ℕ). constant.0.0 < length (store_at stores t).columns) constants → length h.marks + length constants ≤ most_marks
+    → Meets s (doing (looks_then t constants later) c) (holds h) (walks_log s.key t constants (store_at stores t)) (doing later c) (holds (with_marks (marks_for t constants (store_at stores t)) h))

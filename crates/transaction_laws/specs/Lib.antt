@@ -2,3 +2,4 @@
 pub mod Meetings
 pub mod Walks
 pub mod Constants
+pub mod Inserts

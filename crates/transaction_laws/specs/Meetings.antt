@@ -1,5 +1,5 @@
 -- A client and a connection that exchange messages between two turns. The definition is our own.
-use Rattle.std.specs.Prelude.{◌≡◌, List, Option, None}
+use Rattle.std.specs.Prelude.{◌≡◌, List, None}
 use Rattle.walk_proto.specs.declared.messages.Exchange.{Exchange}
 use Rattle.proxy.specs.Client.{Setting, Client}
 use Rattle.proxy.specs.Tasks.{Task}

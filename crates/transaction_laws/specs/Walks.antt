@@ -1,5 +1,5 @@
 -- The exchanges by which a client finds the place of a value in a column of which the connection has the items sealed.
-use Rattle.std.specs.Prelude.{◌≡◌, ℕ, ◌<◌, ◌≤◌, Bool, true, false, eqb, ltb, List, [], ◌∷◌, ◌++◌, map, length, Option, None}
+use Rattle.std.specs.Prelude.{◌≡◌, ℕ, ◌<◌, ◌≤◌, Bool, true, false, eqb, ltb, List, [], ◌∷◌, ◌++◌, map, length, None}
 use Rattle.mope_base.specs.declared.body.Body.{Body}
 use Rattle.mope_base.specs.declared.numbers.TableNo.{TableNo}
 use Rattle.mope_base.specs.declared.numbers.ColNo.{ColNo}
@@ -62,4 +62,4 @@ pub record MayWalk (key : List ℕ) (t : TableNo) (column : ColNo) (tree : Tree 
 -- a walk finds the place of its value, whatever stands in the tree: client and connection go on with it as the next place
 abbrev pub WalkMeets : Type 0
 WalkMeets = (s : Setting) (t : TableNo) (column : ColNo) (x : ℕ) (later : List Task) (tree : Tree (Item Cell)) (c : Client) (h : Held) → MayWalk s.key t column tree h
-  → Meets s (doing (looks t column x ∷ later) c) (holds h) (walk_log s.key x (request.WalkStart t column) tree) (doing later c) (holds (marked t column (place_in value_in tree x) h))
+    → Meets s (doing (looks t column x ∷ later) c) (holds h) (walk_log s.key x (request.WalkStart t column) tree) (doing later c) (holds (marked t column (place_in value_in tree x) h))

@@ -147,7 +147,7 @@ unfolding serve served_unless refused table_in reason_or insert_request
 serve-full s t xs stores c h may none =
     ap (λ (found : Option ℕ). served_unless found (insert_request s t xs c) h) (refusal-insert s t xs stores c h may ∙ ap (λ (b : Bool). reason_or b full None) none)
 
-meets_once : (s : Setting) (c client : Client) (k conn : Conn) (r : Request) (answer : Reply) → wants s c ≡ Some r → allowed c answer ≡ true → serve r k ≡ step_to answer conn → hears s c answer ≡ client → Meets s c k (exchanged r answer ∷ []) client conn
+pub meets_once : (s : Setting) (c client : Client) (k conn : Conn) (r : Request) (answer : Reply) → wants s c ≡ Some r → allowed c answer ≡ true → serve r k ≡ step_to answer conn → hears s c answer ≡ client → Meets s c k (exchanged r answer ∷ []) client conn
 unfolding step_to exchanged
 meets_once s c client k conn r answer wanted allows served heard =
     meets_one s c k (exchanged r answer) [] client conn wanted allows (ap (λ (st : Step). st.served) served)
@@ -187,7 +187,7 @@ hears-full : (s : Setting) (t : TableNo) (xs : List ℕ) (later : List Task) (c 
 unfolding doing hears heard_at heard_by put_by sealing ending
 hears-full s t xs later c = refl
 
-no_fault : (b : Bool) → not (b && false) ≡ true
+pub no_fault : (b : Bool) → not (b && false) ≡ true
 no_fault true = refl
 no_fault false = refl
 

@@ -3,3 +3,4 @@ pub mod Walking
 pub mod Shown
 pub mod FindingConstants
 pub mod Inserting
+pub mod Ending

@@ -3,3 +3,4 @@ pub mod Meetings
 pub mod Walks
 pub mod Constants
 pub mod Inserts
+pub mod Ends

@@ -3,3 +3,4 @@ pub mod Bounds
 pub mod Plans
 pub mod Readings
 pub mod Laws
+pub mod Walks

@@ -4,7 +4,10 @@
 mod bounds;
 mod ends;
 pub mod laws;
+mod ordering;
 mod plans;
+mod spans;
+mod walking;
 
 pub use bounds::{Bound, Query};
 pub use ends::bound;

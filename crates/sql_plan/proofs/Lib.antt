@@ -1,0 +1,16 @@
+pub mod RowCodes
+pub mod Filtering
+pub mod Agreeing
+pub mod Sortings
+pub mod Orderings
+pub mod Found
+pub mod SpanLemmas
+pub mod Steps
+pub mod Extremes
+pub mod EntryOrder
+pub mod Choosing
+pub mod Pages
+pub mod Answering
+pub mod TestBounds
+pub mod ValueRows
+pub mod ValuePlans

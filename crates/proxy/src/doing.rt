@@ -4,9 +4,9 @@ use mope_base::{ColNo, TableNo};
 
 /// Where a walk stands: after so many steps down, at an item of this value.
 #[derive(Clone, Copy, Debug)]
-pub(crate) struct Stop {
-    pub(crate) steps: u8,
-    pub(crate) value: u64,
+pub struct Stop {
+    pub steps: u8,
+    pub value: u64,
 }
 
 /// The task in hand: to begin the next transaction; to find the place of a constant, from where the walk stands; to send

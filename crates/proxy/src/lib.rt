@@ -16,6 +16,7 @@ mod sending;
 mod turning;
 
 pub use client::Proxy;
+pub use doing::Stop;
 pub use driving::drive;
 pub use outcomes::{Driven, Finished, Settings, Step, View, Want};
 pub use walk_proto::Exchange;

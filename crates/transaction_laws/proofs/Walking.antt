@@ -21,8 +21,9 @@ use Rattle.walk_proto.specs.declared.messages.Exchange.{Exchange}
 use Rattle.walk_proto.specs.declared.messages.Reply.TheVariants as reply
 use Rattle.walk_proto.specs.declared.messages.Request.{Request}
 use Rattle.walk_proto.specs.declared.messages.Request.TheVariants as request
+use Rattle.proxy.specs.declared.doing.Stop.{Stop}
 use Rattle.proxy.specs.Tasks.{Task, looks}
-use Rattle.proxy.specs.Client.{Setting, Stop, Client, wants, first_request, request_for, step_for, step_by, hears, heard_at, heard_by, led_by, stop_below}
+use Rattle.proxy.specs.Client.{Setting, Client, wants, first_request, request_for, step_for, step_by, hears, heard_at, heard_by, led_by, stop_below}
 use Rattle.proxy.specs.Allowed.{allowed, is_spelled, fits_first, fits_task, leads_with, may_lead_on}
 use Rattle.server_conn.specs.Connections.{Walk, Held, Conn, holds, Step}
 use Rattle.server_conn.specs.Checks.{refusal, checks, first_failing, reason_or, own, lacks_table, lacks_column, most_marks, walk_open, unknown_table, unknown_column, wrong_places}

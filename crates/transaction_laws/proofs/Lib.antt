@@ -1,6 +1,0 @@
-pub mod Meeting
-pub mod Walking
-pub mod Shown
-pub mod FindingConstants
-pub mod Inserting
-pub mod Ending

@@ -1,6 +1,0 @@
--- What client and connection do together.
-pub mod Meetings
-pub mod Walks
-pub mod Constants
-pub mod Inserts
-pub mod Ends

@@ -6,7 +6,7 @@ use workload::DoneTxn;
 
 /// What all proxies of a run share: the secret key, the first nonce, which is at most 2^63, the mode of the tables,
 /// and whether each proxy keeps its exchanges.
-#[derive(Clone, Copy, Debug)]
+#[derive(Clone, Copy)]
 pub struct Settings {
     pub key: Key,
     pub first: u64,

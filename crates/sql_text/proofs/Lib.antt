@@ -12,12 +12,12 @@ pub mod Sizes
 pub mod Reasons
 pub mod Placing
 mod PrintedPuts
-mod PrintedFront
-mod PrintedTokens
-mod PrintedLines
-mod PrintedBytes
+pub mod PrintedFront
+pub mod PrintedTokens
+pub mod PrintedLines
+pub mod PrintedBytes
 pub mod PrintedLexed
-mod PrintedStyles
+pub mod PrintedStyles
 pub mod FrameRuns
 pub mod FrameVerdicts
 pub mod FaultsOnce

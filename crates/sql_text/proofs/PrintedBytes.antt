@@ -52,7 +52,7 @@ after_allowed before (token ∷ rest) are =
     let tight : Bool = is_tight (mark_of before) (mark_of token) in
     both (gap tight) (token_text token ++ text_after token rest) (gap_allowed tight) (both (token_text token) (text_after token rest) (token_allowed token are.0) (after_allowed token rest are.1))
 
-text_allowed : (tokens : List Token) → AreTokens tokens → list_all is_allowed (text_of tokens) ≡ true
+pub text_allowed : (tokens : List Token) → AreTokens tokens → list_all is_allowed (text_of tokens) ≡ true
 unfolding text_of
 text_allowed [] are = refl
 text_allowed (token ∷ rest) are = both (token_text token) (text_after token rest) (token_allowed token are.0) (after_allowed token rest are.1)

@@ -9,13 +9,13 @@ use Rattle.sql_text.specs.declared.statements.Stmt.TheVariants.{Begin, Commit, R
 use Rattle.sql_text.specs.declared.tokens.Token.{Token}
 use Rattle.sql_text.specs.declared.tokens.Token.TheVariants.{Fixed, Named}
 
-tokens_parts : (xs ys : List Token) → AreTokens (xs ++ ys) → AreTokens xs × AreTokens ys
+pub tokens_parts : (xs ys : List Token) → AreTokens (xs ++ ys) → AreTokens xs × AreTokens ys
 tokens_parts [] ys are = (tt, are)
 tokens_parts (x ∷ xs) ys are =
     let parts = tokens_parts xs ys are.1 in
     ((are.0, parts.0), parts.1)
 
-tokens_append : (xs ys : List Token) → AreTokens xs → AreTokens ys → AreTokens (xs ++ ys)
+pub tokens_append : (xs ys : List Token) → AreTokens xs → AreTokens ys → AreTokens (xs ++ ys)
 tokens_append [] ys front back = back
 tokens_append (x ∷ xs) ys front back = (front.0, tokens_append xs ys front.1 back)
 

@@ -16,8 +16,8 @@ use rand_chacha::ChaCha20Rng;
 use rand_core::SeedableRng;
 use rand_core::utils::NextWord;
 
-/// A secret key of 256 bits, as bytes.
-#[derive(Clone, Copy, Debug, PartialEq, Eq)]
+/// A secret key of 256 bits, as bytes. It is not `Debug`, so that no trace or panic can print it.
+#[derive(Clone, Copy, PartialEq, Eq)]
 pub struct Key {
     pub bytes: [u8; 32],
 }

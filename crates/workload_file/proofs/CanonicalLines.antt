@@ -7,8 +7,8 @@ use Rattle.sql_text.specs.Grammar.{IsStatement, Spells, end_tokens, ninth, spell
 use Rattle.sql_text.specs.Lexing.{AreTokens, Placed, bare, tokens_of}
 use Rattle.sql_text.specs.declared.statements.Stmt.{Stmt}
 use Rattle.sql_text.specs.declared.tokens.Token.{Token}
-use Rattle.workload_file.proofs.AgainBytes.{text_has_no_bad_byte}
-use Rattle.workload_file.proofs.AgainLines.{text_read}
+use Rattle.sql_text.proofs.PrintedBytes.{text_has_no_bad_byte}
+use Rattle.sql_text.proofs.PrintedLines.{text_read}
 
 -- the text of tokens has them
 pub text_tokens : (tokens : List Token) → AreTokens tokens → (placed : List Placed) × HasTokens (text_of tokens) placed × (bare placed ≡ tokens)

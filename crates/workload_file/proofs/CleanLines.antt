@@ -11,7 +11,7 @@ use Rattle.sql_text.specs.Words.{is_allowed}
 use Rattle.sql_text.specs.declared.statements.Stmt.{Stmt}
 use Rattle.workload_file.specs.FileLines.{cut_if, ends_in_return, is_feed, lines_of, with_byte, without_return}
 use Rattle.workload_file.specs.GeneratedText.{text_of_lines}
-use Rattle.workload_file.proofs.AgainBytes.{text_allowed}
+use Rattle.sql_text.proofs.PrintedBytes.{text_allowed}
 
 no_feed : (b : ℕ) → is_allowed b ≡ true → is_feed b ≡ false
 no_feed b h = grind (arith, nat_tests)

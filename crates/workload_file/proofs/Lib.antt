@@ -6,10 +6,6 @@ pub mod ValidActs
 pub mod ValidSteps
 pub mod TextLemmas
 pub mod ShapeLemmas
-pub mod AgainFront
-pub mod AgainTokens
-pub mod AgainLines
-pub mod AgainBytes
 pub mod CanonicalLines
 pub mod GeneratedStatements
 pub mod CleanLines
@@ -17,7 +13,6 @@ pub mod GeneratedRun
 pub mod GeneratedWhole
 pub mod TwinReading
 pub mod TwinSaid
-pub mod AgainStyles
 pub mod ShapeTexts
 pub mod TwinEnds
 pub mod TwinVerdicts

@@ -23,7 +23,7 @@ use Rattle.workload_file.specs.LineTexts.{names_text, shape_text}
 use Rattle.workload_file.specs.Shapes.{cond_shape, line_shape, statement_shape, test_shape, zero_of}
 use Rattle.workload_file.specs.declared.lines.Line.{Line}
 use Rattle.workload_file.specs.declared.lines.Line.TheVariants.{Blank, Framed, Stated, Faulty}
-use Rattle.workload_file.proofs.AgainStyles.{spelled_plain, tokens_append, tokens_parts}
+use Rattle.sql_text.proofs.PrintedStyles.{spelled_plain, tokens_append, tokens_parts}
 use Rattle.workload_file.proofs.CanonicalLines.{one_canonical, one_text}
 use Rattle.workload_file.proofs.ValidLines.{NamesHold, decl_read}
 

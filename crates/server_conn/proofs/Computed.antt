@@ -1,0 +1,51 @@
+-- The worked examples, computed.
+use Rattle.std.proofs.Common.{refl}
+use Rattle.mope_base.specs.declared.body.Body.{Body}
+use Rattle.tree_model.specs.Trees.{inorder, map_tree, size, height, side_by, gap_side, turn_at, past, onward, path, rooted, halved, balanced}
+use Rattle.tree_model.specs.Places.{one_if, below, holds, placed, place, number}
+use Rattle.tree_model.specs.Items.{new_item, one_more, map_item, values, change_at, add_item, one_less, has_rows, live_items, live, is_dead, gone, drop_item, is_sparse, swept}
+use Rattle.tree_model.specs.Balance.{may_stand, climbed, climb, limit, is_heavy, counted, nearest_heavy}
+use Rattle.tree_model.specs.Insertion.{child, with_child, tree_at, put_at, sizes_along, graft, balanced_at, scapegoat_way, settled, insert_tree}
+use Rattle.tree_model.specs.Removal.{by_side, change_tree, first_or, without_first, joined, remove_tree}
+use Rattle.tree_model.specs.Columns.{empty_column, items_of, whole, add, taken_out, shrunk, pruned, fewer, drop_one, lay, apply, apply_all, map_column, map_operation}
+use Rattle.tree_model.specs.Sums.{bodies, tag, tagged, tagged_column, blank, origins, through, composed}
+use Rattle.tree_model.specs.Carried.{is_origin, is_rank, here_or_next, carried}
+use Rattle.path_code.specs.Codes.{bit, spelled, code_within, code_of, side_of, steps}
+use Rattle.path_code.specs.Sums.{item_code, unless, moved_codes, added_codes, dropped_codes, sum_by_origins, sum_of}
+use Rattle.table_model.specs.Stores.{empty_store, empty_shelf, map_row, map_store, map_kept, map_shelf, ranks_by, kept_of, shelf_of}
+use Rattle.table_model.specs.Steps.{operate, follow, kept_after, operated, then_steps, all_steps, adds, drops, only, rank_in, places_by, map_steps}
+use Rattle.table_model.specs.Changes.{here_or, without, of_row, ranks_of, cells_of, kept_without, rows_without, with_kept, insert_row, shelf_without, delete_row, delete_rows, delete_steps, lay_column, insert_cells, delete_number, delete_numbers, lay_store}
+use Rattle.table_model.specs.Operations.{op_on, ops_on, rank_op_on, rank_ops_on, install_on, rank_install_on, shelf_at, steps_if, op_steps, ops_steps, columns_in, rows_in, placed_op, placed_ops, map_op, map_rank_op}
+use Rattle.table_model.specs.Soundness.{numbers_of, kept_numbers, cell_value, column_values, ranks_at, readings_at, column_at}
+use Rattle.enc_table.specs.Seen.{no_stamps, new_table, with_shelf, with_stamps, emptied, spent_table}
+use Rattle.enc_table.specs.Rows.{bodies_of, item_codes, body_at, code_at, row_code, cells_at, entries_at, index_at}
+use Rattle.versions.specs.Databases.{first_database, stamps_at, table_at}
+use Rattle.versions.specs.Operations.{rank_op, rank_ops, op_table, written_at, stamped, with_ops, laid_at, with_install}
+use Rattle.sql_plan.specs.Bounds.{test_by, ends_above, ends_of, bound_of, as_test}
+use Rattle.sql_plan.specs.Plans.{by_code, passing, passing_counts, rows_found, extreme_verb, extreme_found}
+use Rattle.workload.specs.Selection.{meets, passes, in_front, insert_ordered, ordered, by_column, in_order, first_of, chosen, selected, values_at, answer_about, kept_unless, without_row, without_rows}
+use Rattle.server_conn.specs.Connections.{held_on}
+use Rattle.server_conn.specs.Checks.{reason_or, first_failing, own, lacks_table, lacks_column, lacks_one, are_of, fits_row, is_full, once_or_twice, constants_of, alone_if, columns_named, is_fresh, checks, refusal}
+use Rattle.server_conn.specs.Serving.{step_to, placed_at, come_to, walk_started, stepped_from, stepped, in_front_of_top, found, after_statement, with_op, inserted, code_at_mark, second_of, without_second, tests_of, order_by, verb_by, ask_by, rows_asked, bodies_in, reply_about, without_numbers, changed_by, queried, closed, committed, ended_by, effect, table_in, refused, served_unless, served_idle, serve, began, ended}
+use Rattle.server_conn.specs.Examples.{after_step, serve_all}
+use Rattle.server_conn.specs.Examples.{CountsOne, DeletesOne, FullTable, NoTransaction, Refuses}
+
+pub none_held : NoTransaction
+unfolding item_code unless moved_codes added_codes dropped_codes sum_by_origins sum_of inorder map_tree size height side_by gap_side turn_at past onward path rooted halved balanced one_if below holds placed place number new_item one_more map_item values change_at add_item one_less has_rows live_items live is_dead gone drop_item is_sparse swept may_stand climbed climb limit is_heavy counted nearest_heavy child with_child tree_at put_at sizes_along graft balanced_at scapegoat_way settled insert_tree by_side change_tree first_or without_first joined remove_tree empty_column items_of whole add taken_out shrunk pruned fewer drop_one lay apply apply_all map_column map_operation bodies tag tagged tagged_column blank origins through composed is_origin is_rank here_or_next carried bit spelled code_within code_of side_of steps empty_store empty_shelf map_row map_store map_kept map_shelf ranks_by kept_of shelf_of operate follow kept_after operated then_steps all_steps adds drops only rank_in places_by map_steps here_or without of_row ranks_of cells_of kept_without rows_without with_kept insert_row shelf_without delete_row delete_rows delete_steps lay_column insert_cells delete_number delete_numbers lay_store op_on ops_on rank_op_on rank_ops_on install_on rank_install_on shelf_at steps_if op_steps ops_steps columns_in rows_in placed_op placed_ops map_op map_rank_op numbers_of kept_numbers cell_value column_values ranks_at readings_at column_at no_stamps new_table with_shelf with_stamps emptied spent_table bodies_of item_codes body_at code_at row_code cells_at entries_at index_at first_database stamps_at table_at rank_op rank_ops op_table written_at stamped with_ops laid_at with_install test_by ends_above ends_of bound_of as_test by_code passing passing_counts rows_found extreme_verb extreme_found meets passes in_front insert_ordered ordered by_column in_order first_of chosen selected values_at answer_about kept_unless without_row without_rows held_on reason_or first_failing own lacks_table lacks_column lacks_one are_of fits_row is_full once_or_twice constants_of alone_if columns_named is_fresh checks refusal step_to placed_at come_to walk_started stepped_from stepped in_front_of_top found after_statement with_op inserted code_at_mark second_of without_second tests_of order_by verb_by ask_by rows_asked bodies_in reply_about without_numbers changed_by queried closed committed ended_by effect table_in refused served_unless served_idle serve began ended after_step serve_all
+none_held = record { go = refl; found = refl }
+
+pub counts : (b : Body) → CountsOne b
+unfolding item_code unless moved_codes added_codes dropped_codes sum_by_origins sum_of inorder map_tree size height side_by gap_side turn_at past onward path rooted halved balanced one_if below holds placed place number new_item one_more map_item values change_at add_item one_less has_rows live_items live is_dead gone drop_item is_sparse swept may_stand climbed climb limit is_heavy counted nearest_heavy child with_child tree_at put_at sizes_along graft balanced_at scapegoat_way settled insert_tree by_side change_tree first_or without_first joined remove_tree empty_column items_of whole add taken_out shrunk pruned fewer drop_one lay apply apply_all map_column map_operation bodies tag tagged tagged_column blank origins through composed is_origin is_rank here_or_next carried bit spelled code_within code_of side_of steps empty_store empty_shelf map_row map_store map_kept map_shelf ranks_by kept_of shelf_of operate follow kept_after operated then_steps all_steps adds drops only rank_in places_by map_steps here_or without of_row ranks_of cells_of kept_without rows_without with_kept insert_row shelf_without delete_row delete_rows delete_steps lay_column insert_cells delete_number delete_numbers lay_store op_on ops_on rank_op_on rank_ops_on install_on rank_install_on shelf_at steps_if op_steps ops_steps columns_in rows_in placed_op placed_ops map_op map_rank_op numbers_of kept_numbers cell_value column_values ranks_at readings_at column_at no_stamps new_table with_shelf with_stamps emptied spent_table bodies_of item_codes body_at code_at row_code cells_at entries_at index_at first_database stamps_at table_at rank_op rank_ops op_table written_at stamped with_ops laid_at with_install test_by ends_above ends_of bound_of as_test by_code passing passing_counts rows_found extreme_verb extreme_found meets passes in_front insert_ordered ordered by_column in_order first_of chosen selected values_at answer_about kept_unless without_row without_rows held_on reason_or first_failing own lacks_table lacks_column lacks_one are_of fits_row is_full once_or_twice constants_of alone_if columns_named is_fresh checks refusal step_to placed_at come_to walk_started stepped_from stepped in_front_of_top found after_statement with_op inserted code_at_mark second_of without_second tests_of order_by verb_by ask_by rows_asked bodies_in reply_about without_numbers changed_by queried closed committed ended_by effect table_in refused served_unless served_idle serve began ended after_step serve_all
+counts b = record { begin = refl; began_on = refl; insert = refl; committed = refl; count = refl }
+
+pub fills : (b : Body) → FullTable b
+unfolding item_code unless moved_codes added_codes dropped_codes sum_by_origins sum_of inorder map_tree size height side_by gap_side turn_at past onward path rooted halved balanced one_if below holds placed place number new_item one_more map_item values change_at add_item one_less has_rows live_items live is_dead gone drop_item is_sparse swept may_stand climbed climb limit is_heavy counted nearest_heavy child with_child tree_at put_at sizes_along graft balanced_at scapegoat_way settled insert_tree by_side change_tree first_or without_first joined remove_tree empty_column items_of whole add taken_out shrunk pruned fewer drop_one lay apply apply_all map_column map_operation bodies tag tagged tagged_column blank origins through composed is_origin is_rank here_or_next carried bit spelled code_within code_of side_of steps empty_store empty_shelf map_row map_store map_kept map_shelf ranks_by kept_of shelf_of operate follow kept_after operated then_steps all_steps adds drops only rank_in places_by map_steps here_or without of_row ranks_of cells_of kept_without rows_without with_kept insert_row shelf_without delete_row delete_rows delete_steps lay_column insert_cells delete_number delete_numbers lay_store op_on ops_on rank_op_on rank_ops_on install_on rank_install_on shelf_at steps_if op_steps ops_steps columns_in rows_in placed_op placed_ops map_op map_rank_op numbers_of kept_numbers cell_value column_values ranks_at readings_at column_at no_stamps new_table with_shelf with_stamps emptied spent_table bodies_of item_codes body_at code_at row_code cells_at entries_at index_at first_database stamps_at table_at rank_op rank_ops op_table written_at stamped with_ops laid_at with_install test_by ends_above ends_of bound_of as_test by_code passing passing_counts rows_found extreme_verb extreme_found meets passes in_front insert_ordered ordered by_column in_order first_of chosen selected values_at answer_about kept_unless without_row without_rows held_on reason_or first_failing own lacks_table lacks_column lacks_one are_of fits_row is_full once_or_twice constants_of alone_if columns_named is_fresh checks refusal step_to placed_at come_to walk_started stepped_from stepped in_front_of_top found after_statement with_op inserted code_at_mark second_of without_second tests_of order_by verb_by ask_by rows_asked bodies_in reply_about without_numbers changed_by queried closed committed ended_by effect table_in refused served_unless served_idle serve began ended after_step serve_all
+fills b = refl
+
+pub deletes : (b : Body) → DeletesOne b
+unfolding item_code unless moved_codes added_codes dropped_codes sum_by_origins sum_of inorder map_tree size height side_by gap_side turn_at past onward path rooted halved balanced one_if below holds placed place number new_item one_more map_item values change_at add_item one_less has_rows live_items live is_dead gone drop_item is_sparse swept may_stand climbed climb limit is_heavy counted nearest_heavy child with_child tree_at put_at sizes_along graft balanced_at scapegoat_way settled insert_tree by_side change_tree first_or without_first joined remove_tree empty_column items_of whole add taken_out shrunk pruned fewer drop_one lay apply apply_all map_column map_operation bodies tag tagged tagged_column blank origins through composed is_origin is_rank here_or_next carried bit spelled code_within code_of side_of steps empty_store empty_shelf map_row map_store map_kept map_shelf ranks_by kept_of shelf_of operate follow kept_after operated then_steps all_steps adds drops only rank_in places_by map_steps here_or without of_row ranks_of cells_of kept_without rows_without with_kept insert_row shelf_without delete_row delete_rows delete_steps lay_column insert_cells delete_number delete_numbers lay_store op_on ops_on rank_op_on rank_ops_on install_on rank_install_on shelf_at steps_if op_steps ops_steps columns_in rows_in placed_op placed_ops map_op map_rank_op numbers_of kept_numbers cell_value column_values ranks_at readings_at column_at no_stamps new_table with_shelf with_stamps emptied spent_table bodies_of item_codes body_at code_at row_code cells_at entries_at index_at first_database stamps_at table_at rank_op rank_ops op_table written_at stamped with_ops laid_at with_install test_by ends_above ends_of bound_of as_test by_code passing passing_counts rows_found extreme_verb extreme_found meets passes in_front insert_ordered ordered by_column in_order first_of chosen selected values_at answer_about kept_unless without_row without_rows held_on reason_or first_failing own lacks_table lacks_column lacks_one are_of fits_row is_full once_or_twice constants_of alone_if columns_named is_fresh checks refusal step_to placed_at come_to walk_started stepped_from stepped in_front_of_top found after_statement with_op inserted code_at_mark second_of without_second tests_of order_by verb_by ask_by rows_asked bodies_in reply_about without_numbers changed_by queried closed committed ended_by effect table_in refused served_unless served_idle serve began ended after_step serve_all
+deletes b = record { replies_are = refl }
+
+pub refuses_each : (b : Body) → Refuses b
+unfolding item_code unless moved_codes added_codes dropped_codes sum_by_origins sum_of inorder map_tree size height side_by gap_side turn_at past onward path rooted halved balanced one_if below holds placed place number new_item one_more map_item values change_at add_item one_less has_rows live_items live is_dead gone drop_item is_sparse swept may_stand climbed climb limit is_heavy counted nearest_heavy child with_child tree_at put_at sizes_along graft balanced_at scapegoat_way settled insert_tree by_side change_tree first_or without_first joined remove_tree empty_column items_of whole add taken_out shrunk pruned fewer drop_one lay apply apply_all map_column map_operation bodies tag tagged tagged_column blank origins through composed is_origin is_rank here_or_next carried bit spelled code_within code_of side_of steps empty_store empty_shelf map_row map_store map_kept map_shelf ranks_by kept_of shelf_of operate follow kept_after operated then_steps all_steps adds drops only rank_in places_by map_steps here_or without of_row ranks_of cells_of kept_without rows_without with_kept insert_row shelf_without delete_row delete_rows delete_steps lay_column insert_cells delete_number delete_numbers lay_store op_on ops_on rank_op_on rank_ops_on install_on rank_install_on shelf_at steps_if op_steps ops_steps columns_in rows_in placed_op placed_ops map_op map_rank_op numbers_of kept_numbers cell_value column_values ranks_at readings_at column_at no_stamps new_table with_shelf with_stamps emptied spent_table bodies_of item_codes body_at code_at row_code cells_at entries_at index_at first_database stamps_at table_at rank_op rank_ops op_table written_at stamped with_ops laid_at with_install test_by ends_above ends_of bound_of as_test by_code passing passing_counts rows_found extreme_verb extreme_found meets passes in_front insert_ordered ordered by_column in_order first_of chosen selected values_at answer_about kept_unless without_row without_rows held_on reason_or first_failing own lacks_table lacks_column lacks_one are_of fits_row is_full once_or_twice constants_of alone_if columns_named is_fresh checks refusal step_to placed_at come_to walk_started stepped_from stepped in_front_of_top found after_statement with_op inserted code_at_mark second_of without_second tests_of order_by verb_by ask_by rows_asked bodies_in reply_about without_numbers changed_by queried closed committed ended_by effect table_in refused served_unless served_idle serve began ended after_step serve_all
+refuses_each b = record { each = refl }

@@ -1,0 +1,6 @@
+-- What client and connection do together.
+pub mod Meetings
+pub mod Walks
+pub mod Constants
+pub mod Inserts
+pub mod Ends

@@ -1,0 +1,55 @@
+//! Laws of a client and a connection. Each function is empty: its contract is the law.
+ghost use Rattle.transaction_laws.specs.Constants.{ConstantsMeet};
+ghost use Rattle.transaction_laws.specs.Ends.{BeginMeets, CloseMeets, CommitMeets, ConflictMeets, InstallMeets, StaleMeets};
+ghost use Rattle.transaction_laws.specs.Inserts.{FullMeets, InsertMeets};
+ghost use Rattle.transaction_laws.specs.Walks.{WalkMeets};
+
+/// A walk finds the place of its value.
+pub fn walk_meets()
+    ensures { WalkMeets }
+{}
+
+/// Walks find the places of the constants of a statement among the values of their columns.
+pub fn constants_meet()
+    ensures { ConstantsMeet }
+{}
+
+/// A row goes into the world's table and, sealed, into the transaction's, which stands for it again.
+pub fn insert_meets()
+    ensures { InsertMeets }
+{}
+
+/// A full table ends the transaction on both sides.
+pub fn full_meets()
+    ensures { FullMeets }
+{}
+
+/// A transaction begins, and its own tables are the version's.
+pub fn begin_meets()
+    ensures { BeginMeets }
+{}
+
+/// A ROLLBACK, or a COMMIT without an operation, ends without a turn.
+pub fn close_meets()
+    ensures { CloseMeets }
+{}
+
+/// A COMMIT that makes a version.
+pub fn commit_meets()
+    ensures { CommitMeets }
+{}
+
+/// A COMMIT that finds a table written which a statement of the transaction names.
+pub fn conflict_meets()
+    ensures { ConflictMeets }
+{}
+
+/// A REBUILD that makes a version.
+pub fn install_meets()
+    ensures { InstallMeets }
+{}
+
+/// A REBUILD that finds its table changed.
+pub fn stale_meets()
+    ensures { StaleMeets }
+{}

@@ -1,0 +1,9 @@
+pub mod Starting
+pub mod Traced
+pub mod Balanced
+pub mod Repeated
+pub mod Later
+pub mod Stepped
+pub mod Clashing
+pub mod Found
+pub mod Taken

@@ -1,0 +1,13 @@
+pub mod Members
+pub mod Firsts
+pub mod Chains
+pub mod Made
+pub mod Notes
+pub mod Singles
+pub mod OpsOn
+pub mod DraftSteps
+pub mod DraftOps
+pub mod Listed
+pub mod Tables
+pub mod Computed
+pub mod Trying

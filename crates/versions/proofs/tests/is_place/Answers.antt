@@ -1,0 +1,12 @@
+use Rattle.std.proofs.Common.{◌<◌, ◌≤◌}
+use Rattle.std.proofs.lemmas.Bool.{ltb-true, leb-true}
+use Rattle.tree_model.specs.Trees.{IsPlaceOf}
+use Rattle.versions.proofs.tests.is_place.Goals as goal
+
+pub returns-in-Found : goal.returns-in-Found
+unfolding IsPlaceOf
+returns-in-Found c = λ h. rw c.in-Found.is (ltb-true c.in-Found.rank c.args.len h)
+
+pub returns-in-Gap : goal.returns-in-Gap
+unfolding IsPlaceOf
+returns-in-Gap c = λ h. rw c.in-Gap.is (leb-true c.in-Gap.rank c.args.len h)

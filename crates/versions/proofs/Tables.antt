@@ -1,23 +1,25 @@
 -- One table of the next version: as it was, or written, or laid.
-use Rattle.std.proofs.Common.{◌≡◌, ℕ, suc, ◌+◌, ◌<◌, Bool, true, false, List, [], ◌∷◌, ◌++◌, length, get_or, refl, ap, ap₂, sym, ◌∙◌, subst, arith, add-one, eqb, eq-eqb, ne_eqb, inl, inr}
+use Rattle.std.proofs.Common.{◌≡◌, ℕ, suc, ◌+◌, ◌<◌, Bool, true, false, List, [], ◌∷◌, ◌++◌, length, get_or, refl, ap, ap₂, sym, ◌∙◌, subst, arith, add-one, zero-add, eqb, eq-eqb, ne_eqb, inl, inr}
 use Rattle.std.proofs.lemmas.Bool.{cases_eq}
 use Rattle.std.proofs.lemmas.List.{append-nil}
 use Rattle.mope_base.specs.declared.body.Body.{Body}
 use Rattle.tree_model.specs.Items.{change_at}
 use Rattle.tree_model.specs.Columns.{Operation, Lay}
 use Rattle.tree_model.proofs.Changes.{length-change_at}
+use Rattle.path_code.specs.Sums.{Sum, sum_of}
+use Rattle.table_model.specs.Soundness.{column_at}
 use Rattle.table_model.specs.Stores.{Shelf}
 use Rattle.table_model.specs.Steps.{only}
 use Rattle.table_model.specs.Changes.{lay_column}
 use Rattle.table_model.specs.Operations.{RankOp, rank_ops_on, rank_install_on, shelf_at, ops_steps, steps_if}
 use Rattle.enc_table.specs.declared.stamps.Stamps.{Stamps}
-use Rattle.enc_table.specs.Seen.{Seen, no_stamps, with_shelf, with_stamps}
+use Rattle.enc_table.specs.Seen.{Seen, IsTable, no_stamps, with_shelf, with_stamps}
 use Rattle.versions.specs.declared.change.ColumnChange.{ColumnChange}
-use Rattle.versions.specs.Databases.{Database, table_at, stamps_at}
-use Rattle.versions.specs.Changes.{column_changes}
+use Rattle.versions.specs.Databases.{Database, IsDatabase, IsMember, table_at, stamps_at}
+use Rattle.versions.specs.Changes.{column_changes, listed}
 use Rattle.versions.specs.Drafts.{is_written}
 use Rattle.versions.specs.Operations.{with_ops, with_install, written_at, laid_at, stamped, op_table}
-use Rattle.versions.proofs.Listed.{no-steps}
+use Rattle.versions.proofs.Listed.{no-steps, only-column}
 use Rattle.versions.proofs.OpsOn.{unwritten, written-dates, changed-here, changed-other, ops-length}
 
 -- ---- after operations
@@ -44,6 +46,20 @@ written-is d ops table made h there is =
     ∙ ap (λ (dates : Stamps). let r : Seen = record { shelf = s; same_time = d.same_time; limit = d.limit; stamps = dates; spent = false } in r)
     (ap (λ (n : ℕ). written_at n (stamps_at d.stamps table)) next ∙ sym (written-dates (suc d.number) table ops d.stamps h there))
 
+-- the same by the steps that make it
+pub written-made : (d : Database) (ops : List (RankOp Body)) (table : ℕ) (made after : Seen) (stamps : Stamps) (number : ℕ) → IsDatabase d → table < length d.shelves → is_written ops table ≡ true
+    → made ≡ with_shelf (shelf_at (rank_ops_on d.same_time ops d.shelves) table) (table_at d table) → stamps ≡ made.stamps → number ≡ d.number → after ≡ with_stamps (record { written = number + 1; laid = stamps.laid }) made
+    → after ≡ table_at (with_ops ops d) table
+written-made d ops table made after stamps number is there h drafted old count stamp =
+    stamp
+    ∙ ap₂ (λ (s : Stamps) (n : ℕ). with_stamps (record { written = n + 1; laid = s.laid }) made) old count
+    ∙ written-is d ops table made h (omega (arith, there, is.stamped)) drafted
+
+-- it is of the version's mode and limit, and isn't spent
+pub written-member : (d : Database) (ops : List (RankOp Body)) (table : ℕ) (t : Seen) → t ≡ table_at (with_ops ops d) table → IsTable t → IsMember d.same_time d.limit t
+unfolding table_at with_ops
+written-member d ops table t e is = record { mode = ap (λ (u : Seen). u.same_time) e; rows = ap (λ (u : Seen). u.limit) e; fresh = ap (λ (u : Seen). u.spent) e; table = is }
+
 -- ---- after an install
 
 pub laid-is : (d : Database) (table column : ℕ) → table < length d.shelves → table < length d.stamps
@@ -54,6 +70,33 @@ laid-is d table column there dated =
     ap₂ (λ (s : Shelf Body) (dates : Stamps). let r : Seen = record { shelf = s; same_time = d.same_time; limit = d.limit; stamps = dates; spent = false } in r)
     (sym (changed-here (lay_column d.same_time column) d.shelves table _ there))
     (ap (λ (n : ℕ). laid_at n (stamps_at d.stamps table)) next ∙ sym (changed-here (laid_at (suc d.number)) d.stamps table no_stamps dated))
+
+-- the same by the steps that make it
+pub laid-made : (d : Database) (table column : ℕ) (copy rebuilt after : Seen) (stamps : Stamps) (number : ℕ) → IsDatabase d → table < length d.shelves
+    → copy ≡ table_at d table → rebuilt ≡ with_shelf (lay_column copy.same_time column copy.shelf) copy → stamps ≡ rebuilt.stamps → number ≡ d.number → after ≡ with_stamps (record { written = stamps.written; laid = number + 1 }) rebuilt
+    → after ≡ table_at (with_install table column d) table
+unfolding table_at with_shelf
+laid-made d table column copy rebuilt after stamps number is there copied laid old count stamp =
+    let whole = laid ∙ ap (λ (t : Seen). with_shelf (lay_column t.same_time column t.shelf) t) copied in
+    stamp
+    ∙ ap₂ (λ (s : Stamps) (n : ℕ). with_stamps (record { written = s.written; laid = n + 1 }) rebuilt) old count
+    ∙ ap (λ (t : Seen). with_stamps (record { written = t.stamps.written; laid = d.number + 1 }) t) whole
+    ∙ laid-is d table column there (omega (arith, there, is.stamped))
+
+-- it is of the version's mode and limit, and isn't spent
+pub laid-member : (d : Database) (table column : ℕ) (t : Seen) → t ≡ table_at (with_install table column d) table → IsTable t → IsMember d.same_time d.limit t
+unfolding table_at with_install
+laid-member d table column t e is = record { mode = ap (λ (u : Seen). u.same_time) e; rows = ap (λ (u : Seen). u.limit) e; fresh = ap (λ (u : Seen). u.spent) e; table = is }
+
+-- what the balancing of a table's column lists
+pub laid-listed : (d : Database) (table column : ℕ) (copy : Seen) (s : Sum) (before after : List ColumnChange) → column < length (shelf_at d.shelves table).columns → copy ≡ table_at d table → s ≡ sum_of copy.same_time (Lay ∷ []) (column_at copy.shelf.columns column)
+    → after ≡ before ++ listed table column s [] → after ≡ before ++ column_changes d.same_time table 0 (only column (Lay ∷ [])) (shelf_at d.shelves table).columns
+unfolding table_at
+laid-listed d table column copy s before after within copied sum more =
+    more
+    ∙ ap (λ (x : Sum). before ++ listed table column x []) (sum ∙ ap (λ (t : Seen). sum_of t.same_time (Lay ∷ []) (column_at t.shelf.columns column)) copied)
+    ∙ ap (λ (l : List ColumnChange). before ++ l)
+    (ap (λ (n : ℕ). listed table n (sum_of d.same_time (Lay ∷ []) (column_at (shelf_at d.shelves table).columns column)) []) (sym (zero-add column)) ∙ sym (only-column d.same_time table 0 column (Lay ∷ []) (shelf_at d.shelves table).columns within))
 
 pub stays-unlaid : (d : Database) (table column other : ℕ) → eqb table other ≡ false → table_at d other ≡ table_at (with_install table column d) other
 unfolding table_at with_install rank_install_on shelf_at stamps_at

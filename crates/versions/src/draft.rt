@@ -141,6 +141,7 @@ pub fn drafted(
     requires there { table.0 < length version.now.shelves }
     ensures { IfOk result (λ draft. IsDraft version.now table.0 (rank_ops ops.now) draft.table draft.log.items) }
 {
+    let _database = version.tables();
     let mut draft = Draft {
         table: version.copy_of(table)?,
         log: Vec::new(alloc),

@@ -1,13 +1,12 @@
 -- Changes of a column's codes in turn: one list after another, a list cut in two, and all of them as one.
-use Rattle.std.proofs.Common.{◌≡◌, ℕ, ◌≤◌, Bool, List, [], ◌∷◌, ◌++◌, map, Some, refl, ap, ap₂, sym, ◌∙◌, subst, append_assoc}
+use Rattle.std.proofs.Common.{◌≡◌, ℕ, ◌≤◌, Bool, List, [], ◌∷◌, ◌++◌, refl, ap, sym, ◌∙◌, subst, append_assoc}
 use Rattle.std.proofs.lemmas.List.{append-nil}
 use Rattle.mope_base.specs.declared.body.Body.{Body}
-use Rattle.tree_model.specs.Trees.{height, size}
+use Rattle.tree_model.specs.Trees.{height}
 use Rattle.tree_model.specs.Columns.{Column, Operation, apply_all}
-use Rattle.tree_model.specs.Sums.{origins}
 use Rattle.tree_model.proofs.Summed.{apply_all-append, origins-nothing}
 use Rattle.path_code.specs.Sums.{Sum, sum_of, sum_by_origins}
-use Rattle.code_changes.specs.Changes.{Fits, list_after}
+use Rattle.code_changes.specs.Changes.{Fits}
 use Rattle.code_changes.specs.Columns.{codes_of}
 use Rattle.code_changes.specs.CompositionLaws.{unchanged}
 use Rattle.code_changes.specs.Compositions.{FitsInTurn, both_on}

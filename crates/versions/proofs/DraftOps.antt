@@ -1,5 +1,5 @@
 -- One operation of a list on a table in the making.
-use Rattle.std.proofs.Common.{◌≡◌, ℕ, suc, ◌+◌, ◌<◌, ◌^◌, ◌++◌, [], ◌∷◌, Bool, true, false, List, length, take, get_or, refl, ap, sym, ◌∙◌, subst, eqb, add-one, arith}
+use Rattle.std.proofs.Common.{◌≡◌, ℕ, suc, ◌+◌, ◌<◌, ◌^◌, ◌++◌, [], ◌∷◌, true, false, List, length, take, get_or, ap, sym, ◌∙◌, subst, eqb, add-one, arith}
 use Rattle.std.proofs.lemmas.Bool.{eqb-true}
 use Rattle.mope_base.specs.declared.body.Body.{Body}
 use Rattle.mope_base.specs.declared.numbers.TableNo.{TableNo}

@@ -1,5 +1,5 @@
 -- A table in the making: at first, and after one more operation.
-use Rattle.std.proofs.Common.{◌≡◌, ℕ, suc, zero, ◌+◌, ◌<◌, ◌≤◌, ◌^◌, ◌⊎◌, Bool, true, false, ◌==◌, List, [], ◌∷◌, ◌++◌, length, map, take, get_or, refl, ap, ap₂, sym, ◌∙◌, subst, arith, append_assoc, eqb, eq-eqb, inl, inr, nat_eq}
+use Rattle.std.proofs.Common.{◌≡◌, ℕ, suc, zero, ◌<◌, ◌≤◌, ◌⊎◌, Bool, false, List, [], ◌∷◌, ◌++◌, length, map, get_or, refl, ap, sym, ◌∙◌, subst, arith, eqb, eq-eqb, inl, inr}
 use Rattle.std.proofs.lemmas.List.{append-nil, length-map}
 use Rattle.mope_base.specs.declared.body.Body.{Body}
 use Rattle.tree_model.specs.declared.Place.{Place}
@@ -7,16 +7,15 @@ use Rattle.tree_model.specs.Trees.{height}
 use Rattle.tree_model.specs.Columns.{Column, Operation, apply_all}
 use Rattle.path_code.specs.Sums.{Sum, sum_of}
 use Rattle.table_model.specs.Stores.{Shelf}
-use Rattle.table_model.specs.Steps.{operate, operated, adds, drops, all_steps, then_steps}
+use Rattle.table_model.specs.Steps.{operate, operated, adds, drops, all_steps}
 use Rattle.table_model.specs.Changes.{insert_row, shelf_without, delete_row, delete_rows, delete_steps, ranks_of}
 use Rattle.table_model.specs.Soundness.{column_at}
 use Rattle.table_model.specs.ShelfSoundness.{SoundShelf, AllSoundShelves}
 use Rattle.table_model.specs.Operations.{RankOp, InsertAt, DeleteAt, rank_op_on, rank_ops_on, shelf_at, steps_if, op_steps, ops_steps}
-use Rattle.table_model.specs.Fitting.{AllPlaced, AllFitAt}
+use Rattle.table_model.specs.Fitting.{AllPlaced}
 use Rattle.table_model.proofs.ByIndex.{operate-at}
 use Rattle.table_model.proofs.ByColumns.{ops_by_columns}
 use Rattle.table_model.proofs.ShelfSoundOps.{operations_keep_shelf, shelf_fits_rows}
-use Rattle.table_model.proofs.ShelfTables.{ops-shelf}
 use Rattle.enc_table.specs.Seen.{Seen, with_shelf}
 use Rattle.enc_table.specs.Sums.{sums, before_each, delete_sums}
 use Rattle.versions.specs.declared.draft.Logged.{Logged}

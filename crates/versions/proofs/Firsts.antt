@@ -1,5 +1,5 @@
 -- The first version: tables without rows.
-use Rattle.std.proofs.Common.{◌≡◌, ℕ, suc, ◌≤◌, ◌<◌, ◌^◌, Bool, List, [], ◌∷◌, length, map, refl, ap, ap₂, sym, ◌∙◌, arith, lit≤}
+use Rattle.std.proofs.Common.{◌≡◌, ℕ, suc, ◌≤◌, Bool, List, [], ◌∷◌, length, map, refl, ap, arith}
 use Rattle.std.specs.List.{All}
 use Rattle.std.proofs.lemmas.List.{length-map}
 use Rattle.mope_base.specs.declared.body.Body.{Body}
@@ -7,7 +7,7 @@ use Rattle.mope_base.specs.Lists.{Each}
 use Rattle.tree_model.specs.Columns.{empty_column}
 use Rattle.table_model.specs.Stores.{Shelf, empty_shelf}
 use Rattle.table_model.proofs.ShelfSoundOps.{empty_shelf_is_sound}
-use Rattle.enc_table.specs.Seen.{Seen, IsTable, new_table, no_stamps, emptied}
+use Rattle.enc_table.specs.Seen.{Seen, IsTable, new_table, no_stamps}
 use Rattle.versions.specs.Databases.{IsMember, database_of, first_database}
 use Rattle.versions.specs.Inside.{IsVersion}
 use Rattle.std.proofs.Math.ListN.{length-replicate}

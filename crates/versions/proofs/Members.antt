@@ -1,13 +1,13 @@
 -- What is true of the tables of a version, and of each of them.
-use Rattle.std.proofs.Common.{◌≡◌, ℕ, suc, zero, ◌<◌, ◌≤◌, Bool, List, [], ◌∷◌, length, map, get_or, refl, ap, ap₂, sym, ◌∙◌, arith, subst}
+use Rattle.std.proofs.Common.{◌≡◌, ℕ, suc, zero, ◌<◌, Bool, List, [], ◌∷◌, length, map, get_or, ap, ap₂, sym, ◌∙◌, arith, subst}
 use Rattle.std.proofs.lemmas.List.{length-map, get_or-map}
 use Rattle.std.specs.Arc.{arc_value}
 use Rattle.std.specs.declared.sync.Arc.{Arc}
 use Rattle.mope_base.specs.Lists.{Each}
 use Rattle.table_model.specs.ShelfSoundness.{SoundShelf, AllSoundShelves}
 use Rattle.table_model.specs.Operations.{shelf_at}
-use Rattle.enc_table.specs.Seen.{Seen, IsTable}
-use Rattle.versions.specs.Databases.{Database, IsMember, database_of, IsSmall, IsDatabase, stamps_at, table_at}
+use Rattle.enc_table.specs.Seen.{Seen}
+use Rattle.versions.specs.Databases.{IsMember, database_of, IsSmall, IsDatabase, stamps_at, table_at}
 use Rattle.versions.specs.Inside.{IsVersion, tables_of}
 
 pub all-sound : (same_time : Bool) (limit : ℕ) (tables : List Seen) → Each (IsMember same_time limit) tables → AllSoundShelves same_time limit (map (λ (t : Seen). t.shelf) tables)

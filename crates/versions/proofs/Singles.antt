@@ -1,5 +1,5 @@
 -- Lists with no element and with one.
-use Rattle.std.proofs.Common.{◌≡◌, ℕ, List, [], ◌∷◌, length, get_or, refl, ap, sym, arith}
+use Rattle.std.proofs.Common.{◌≡◌, List, [], ◌∷◌, length, get_or, refl, ap, sym, arith}
 
 pub of_none : {A : Type 0} (xs : List A) → length xs ≡ 0 → xs ≡ []
 of_none [] h = refl

@@ -1,5 +1,5 @@
 -- The operations of a transaction on the tables of a version, and the versions that a commit and an install make of one.
-use Rattle.std.specs.Prelude.{◌≡◌, ℕ, suc, ◌<◌, ◌^◌, Bool, List, [], ◌∷◌, length, map}
+use Rattle.std.specs.Prelude.{ℕ, suc, ◌<◌, ◌^◌, Bool, List, [], ◌∷◌, length, map}
 use Rattle.mope_base.specs.declared.body.Body.{Body}
 use Rattle.tree_model.specs.Items.{change_at}
 use Rattle.table_model.specs.Stores.{Shelf}

@@ -1,5 +1,5 @@
 -- Turns, and the version that a list of them leads to.
-use Rattle.std.specs.Prelude.{◌≡◌, ℕ, suc, List, [], ◌∷◌}
+use Rattle.std.specs.Prelude.{◌≡◌, suc, List, [], ◌∷◌}
 use Rattle.versions.specs.declared.change.ColumnChange.{ColumnChange}
 use Rattle.versions.specs.declared.turn.Turn.{Turn}
 use Rattle.versions.specs.declared.turn.TurnKind.{TurnKind}

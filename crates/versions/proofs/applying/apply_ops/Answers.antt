@@ -1,11 +1,10 @@
-use Rattle.std.proofs.Common.{◌≡◌, ℕ, suc, ◌+◌, ◌<◌, length, refl, ap, sym, ◌∙◌, arith, add-one}
+use Rattle.std.proofs.Common.{◌≡◌, ℕ, suc, ◌+◌, ◌<◌, length, ap, sym, ◌∙◌, arith, add-one}
 use Rattle.table_model.specs.Operations.{ops_steps}
-use Rattle.enc_table.specs.declared.stamps.Stamps.{Stamps}
-use Rattle.versions.specs.Databases.{Database, database_of}
+use Rattle.versions.specs.Databases.{database_of}
 use Rattle.versions.specs.Changes.{ops_changes}
 use Rattle.versions.specs.Operations.{rank_ops, with_ops}
 use Rattle.versions.specs.Inside.{tables_of}
-use Rattle.versions.proofs.Made.{IsMade, made-starts, made-more, made-few, made-whole, made-listed}
+use Rattle.versions.proofs.Made.{made-starts, made-more, made-few, made-whole, made-listed}
 use Rattle.versions.proofs.Tables.{written-shelves, written-stamps}
 use Rattle.versions.proofs.applying.apply_ops.Goals as goal
 

@@ -1,5 +1,4 @@
-use Rattle.std.proofs.Common.{◌≡◌, ℕ, ◌||◌, Bool, true, false, ◌+◌, drop, refl, ap, sym, ◌∙◌, eqb}
-use Rattle.mope_base.specs.declared.numbers.TableNo.{TableNo}
+use Rattle.std.proofs.Common.{◌≡◌, ℕ, ◌||◌, Bool, true, false, ◌+◌, drop, ap, sym, ◌∙◌, eqb}
 use Rattle.versions.specs.Drafts.{is_written}
 use Rattle.versions.specs.Operations.{rank_op, rank_ops, op_table}
 use Rattle.versions.proofs.OpsOn.{written-here, written-past}

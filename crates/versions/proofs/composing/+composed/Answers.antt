@@ -1,7 +1,7 @@
-use Rattle.std.proofs.Common.{◌≡◌, ◌<◌, ℕ, ◌-◌, ◌/◌, ◌++◌, List, length, take, drop, ap, sym, ◌∙◌, subst, arith}
+use Rattle.std.proofs.Common.{◌≡◌, ◌<◌, ℕ, ◌-◌, ◌/◌, ◌++◌, List, length, take, drop, ap, ◌∙◌, subst, arith}
 use Rattle.std.proofs.lemmas.List.{take-append-drop, take_rest, length-take}
 use Rattle.path_code.specs.Sums.{Sum}
-use Rattle.versions.specs.Summed.{AreInTurn, IsSummed}
+use Rattle.versions.specs.Summed.{IsSummed}
 use Rattle.versions.proofs.Chains.{chain-none, chain-one, in_turn-first, in_turn-second, fits-halves, whole-halves}
 use Rattle.versions.proofs.Singles.{of_none, of_one}
 use Rattle.versions.proofs.composing.+composed.Goals as goal

@@ -1,8 +1,8 @@
-use Rattle.std.proofs.Common.{◌≡◌, ℕ, ◌++◌, [], ◌∷◌, List, get_or, refl, ap, sym, ◌∙◌, subst, false, true}
+use Rattle.std.proofs.Common.{◌≡◌, get_or, sym, ◌∙◌, subst}
 use Rattle.versions.specs.declared.op.Op.{Op}
 use Rattle.versions.specs.declared.op.Op.TheVariants.{Insert, Delete}
 use Rattle.versions.specs.Operations.{op_table, rank_op}
-use Rattle.versions.proofs.DraftOps.{IsAt, InsertAsks, DeleteAsks, insert-asks, delete-asks, elsewhere-stays}
+use Rattle.versions.proofs.DraftOps.{InsertAsks, DeleteAsks, insert-asks, delete-asks, elsewhere-stays}
 use Rattle.versions.proofs.draft.apply_op.Goals as goal
 
 inserting : (c : goal.After-as_slice-in-Insert) → InsertAsks c.args.version.now c.args.table.0 c.args.ops.now c.args.at c.in-Insert.named c.in-Insert.places c.in-Insert.bodies c.args.draft.now.table c.args.draft.now.log.items

@@ -1,14 +1,12 @@
-use Rattle.std.proofs.Common.{◌≡◌, ◌==◌, [], ◌∷◌, ℕ, suc, ◌+◌, ◌<◌, length, refl, ap, sym, ◌∙◌, arith, add-one}
-use Rattle.mope_base.specs.declared.body.Body.{Body}
+use Rattle.std.proofs.Common.{◌≡◌, ◌==◌, [], ◌∷◌, ℕ, suc, ◌+◌, ◌<◌, length, ap, sym, ◌∙◌, arith, add-one}
 use Rattle.tree_model.specs.Columns.{Lay}
 use Rattle.table_model.specs.Steps.{only}
 use Rattle.table_model.specs.Operations.{steps_if}
-use Rattle.enc_table.specs.declared.stamps.Stamps.{Stamps}
-use Rattle.versions.specs.Databases.{Database, database_of}
+use Rattle.versions.specs.Databases.{database_of}
 use Rattle.versions.specs.Changes.{install_changes}
 use Rattle.versions.specs.Operations.{with_install}
 use Rattle.versions.specs.Inside.{tables_of}
-use Rattle.versions.proofs.Made.{IsMade, made-starts, made-more, made-few, made-whole, made-listed}
+use Rattle.versions.proofs.Made.{made-starts, made-more, made-few, made-whole, made-listed}
 use Rattle.versions.proofs.Tables.{laid-shelves, laid-stamps}
 use Rattle.versions.proofs.laying.apply_rebuild.Goals as goal
 

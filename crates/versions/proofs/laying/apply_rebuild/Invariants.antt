@@ -1,6 +1,4 @@
-use Rattle.std.proofs.Common.{◌≡◌, ◌==◌, [], ◌∷◌, map, take, ◌≤◌}
-use Rattle.std.specs.List.{range_with_len}
-use Rattle.mope_base.specs.Lists.{Each}
+use Rattle.std.proofs.Common.{◌==◌, [], ◌∷◌}
 use Rattle.table_model.specs.Operations.{steps_if}
 use Rattle.table_model.specs.Steps.{only}
 use Rattle.tree_model.specs.Columns.{Lay}

@@ -1,4 +1,4 @@
-use Rattle.std.proofs.Common.{◌<◌, ◌∙◌, length, sym, subst, refl}
+use Rattle.std.proofs.Common.{◌<◌, ◌∙◌, length, sym, subst}
 use Rattle.enc_table.specs.Seen.{Seen, IsTable}
 use Rattle.versions.specs.Databases.{table_at}
 use Rattle.versions.proofs.Tables.{laid-made, laid-member, laid-listed}

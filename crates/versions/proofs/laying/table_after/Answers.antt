@@ -1,10 +1,9 @@
-use Rattle.std.proofs.Common.{◌≡◌, ℕ, ◌++◌, ◌∷◌, [], List, Bool, eqb, refl, ap, sym, ◌∙◌, false}
+use Rattle.std.proofs.Common.{◌++◌, ◌∷◌, [], List, eqb, ap, sym, ◌∙◌, false}
 use Rattle.std.proofs.lemmas.List.{append-nil}
-use Rattle.std.proofs.lemmas.Bool.{eqb-true}
 use Rattle.mope_base.specs.declared.body.Body.{Body}
 use Rattle.tree_model.specs.Columns.{Operation, Lay}
 use Rattle.table_model.specs.Steps.{only}
-use Rattle.table_model.specs.Operations.{shelf_at, steps_if}
+use Rattle.table_model.specs.Operations.{shelf_at}
 use Rattle.versions.specs.declared.change.ColumnChange.{ColumnChange}
 use Rattle.versions.specs.Changes.{column_changes}
 use Rattle.versions.proofs.Listed.{no-steps}

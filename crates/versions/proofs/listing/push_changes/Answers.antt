@@ -1,4 +1,4 @@
-use Rattle.std.proofs.Common.{◌≡◌, ℕ, suc, ◌+◌, ◌<◌, ◌++◌, [], List, length, take, refl, ap, ap₂, sym, ◌∙◌, subst, arith, add-one, zero-add, append_assoc, get_or}
+use Rattle.std.proofs.Common.{◌≡◌, ℕ, suc, ◌+◌, ◌<◌, ◌++◌, [], List, length, take, ap, ap₂, sym, ◌∙◌, subst, arith, add-one, zero-add, append_assoc, get_or}
 use Rattle.std.proofs.lemmas.List.{append-nil}
 use Rattle.std.proofs.Math.Seq.{take-length}
 use Rattle.path_code.specs.Sums.{Sum, sum_of}

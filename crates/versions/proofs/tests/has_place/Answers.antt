@@ -1,9 +1,9 @@
-use Rattle.std.proofs.Common.{◌≡◌, ℕ, ◌<◌, ◌^◌, true, false, length, refl, ap, sym, ◌∙◌, subst, arith}
+use Rattle.std.proofs.Common.{◌≡◌, ℕ, ◌<◌, ◌^◌, true, false, length, ap, ◌∙◌, subst, arith}
 use Rattle.tree_model.specs.Trees.{size, IsPlaceOf}
 use Rattle.tree_model.specs.Columns.{Column}
 use Rattle.table_model.specs.Operations.{shelf_at}
 use Rattle.table_model.specs.Soundness.{column_at}
-use Rattle.enc_table.specs.Seen.{Seen, IsFull}
+use Rattle.enc_table.specs.Seen.{Seen}
 use Rattle.versions.specs.Databases.{table_at}
 use Rattle.versions.proofs.Trying.{has-room, has-number}
 use Rattle.versions.proofs.tests.has_place.Goals as goal

@@ -1,4 +1,3 @@
-use Rattle.std.proofs.Common.{◌<◌, ◌≤◌}
 use Rattle.std.proofs.lemmas.Bool.{ltb-true, leb-true}
 use Rattle.tree_model.specs.Trees.{IsPlaceOf}
 use Rattle.versions.proofs.tests.is_place.Goals as goal

@@ -1,7 +1,4 @@
-use Rattle.std.proofs.Common.{◌≡◌, ◌∷◌, [], refl, ap, ap₂, sym, ◌∙◌}
-use Rattle.mope_base.specs.declared.body.Body.{Body}
-use Rattle.versions.specs.declared.op.Op.{Op}
-use Rattle.versions.specs.declared.op.Op.TheVariants.{Insert}
+use Rattle.std.proofs.Common.{refl}
 use Rattle.versions.proofs.Trying.{row-fits}
 use Rattle.versions.proofs.tests.put.Goals as goal
 

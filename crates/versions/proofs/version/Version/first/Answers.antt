@@ -1,7 +1,6 @@
-use Rattle.std.proofs.Common.{ℕ, take, length, refl, ◌∙◌, ap, sym}
+use Rattle.std.proofs.Common.{◌∙◌, ap}
 use Rattle.mope_base.specs.Modes.{is_same_time}
 use Rattle.versions.specs.Databases.{database_of}
-use Rattle.versions.specs.Inside.{tables_of}
 use Rattle.versions.proofs.Firsts.{first_inside, first-is}
 use Rattle.versions.proofs.version.Version.first.Goals as goal
 

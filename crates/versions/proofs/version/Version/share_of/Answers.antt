@@ -1,9 +1,9 @@
-use Rattle.std.proofs.Common.{◌≡◌, ◌<◌, ℕ, length, refl, ◌∙◌, ap, sym, subst, arith}
+use Rattle.std.proofs.Common.{◌<◌, length, ◌∙◌, ap, arith}
 use Rattle.std.proofs.lemmas.List.{length-map}
 use Rattle.std.specs.Arc.{arc_value}
 use Rattle.mope_base.specs.Modes.{is_same_time}
 use Rattle.enc_table.specs.Seen.{Seen}
-use Rattle.versions.specs.Databases.{Database, IsMember}
+use Rattle.versions.specs.Databases.{Database}
 use Rattle.versions.specs.Inside.{tables_of}
 use Rattle.versions.proofs.Members.{shared-at, share-member}
 use Rattle.versions.proofs.version.Version.share_of.Goals as goal

@@ -1,4 +1,3 @@
-use Rattle.std.proofs.Common.{ℕ, refl, ◌∙◌, ap, sym}
 use Rattle.mope_base.specs.Modes.{is_same_time}
 use Rattle.versions.specs.Inside.{tables_of}
 use Rattle.versions.proofs.Members.{is_database, shared-at}

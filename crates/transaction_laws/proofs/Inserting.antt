@@ -160,7 +160,7 @@ columns-in : (stores : List (Store Cell)) (t : TableNo) → t.0 < length stores 
 unfolding columns_in store_at
 columns-in stores t lt = get_or-map (λ (u : Store Cell). u.columns) stores t.0 (empty_store Cell 0) [] lt
 
-rows-in : (stores : List (Store Cell)) (t : TableNo) → t.0 < length stores → rows_in stores t.0 ≡ (store_at stores t).rows
+pub rows-in : (stores : List (Store Cell)) (t : TableNo) → t.0 < length stores → rows_in stores t.0 ≡ (store_at stores t).rows
 unfolding rows_in store_at
 rows-in stores t lt = get_or-map (λ (u : Store Cell). u.rows) stores t.0 (empty_store Cell 0) [] lt
 

@@ -4,3 +4,7 @@ pub mod Shown
 pub mod FindingConstants
 pub mod Inserting
 pub mod Ending
+pub mod AskedPlans
+pub mod ReadingRows
+pub mod Replying
+pub mod Querying

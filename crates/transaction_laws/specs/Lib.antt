@@ -4,3 +4,4 @@ pub mod Walks
 pub mod Constants
 pub mod Inserts
 pub mod Ends
+pub mod Queries

@@ -2,6 +2,7 @@
 ghost use Rattle.transaction_laws.specs.Constants.{ConstantsMeet};
 ghost use Rattle.transaction_laws.specs.Ends.{BeginMeets, CloseMeets, CommitMeets, ConflictMeets, InstallMeets, StaleMeets};
 ghost use Rattle.transaction_laws.specs.Inserts.{FullMeets, InsertMeets};
+ghost use Rattle.transaction_laws.specs.Queries.{QueryMeets};
 ghost use Rattle.transaction_laws.specs.Walks.{WalkMeets};
 
 /// A walk finds the place of its value.
@@ -22,6 +23,12 @@ pub fn insert_meets()
 /// A full table ends the transaction on both sides.
 pub fn full_meets()
     ensures { FullMeets }
+{}
+
+/// A statement that asks gets the rows that it is about by value, with their cells sealed, and is answered as on plain tables; the rows
+/// of a DELETE go out of the world's table and out of the transaction's, which stands for it again.
+pub fn query_meets()
+    ensures { QueryMeets }
 {}
 
 /// A transaction begins, and its own tables are the version's.

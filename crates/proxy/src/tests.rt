@@ -197,7 +197,7 @@ fn lies_at_each_want(rt: HostRuntime) -> Result<(), Fail> {
     Ok(())
 }
 
-// A walk comes to 64 items, the last after 63 steps: the next one is strange.
+// A walk comes to 63 items at most: the next one is strange.
 #[test]
 fn walk_that_has_no_end(rt: HostRuntime) -> Result<(), Fail> {
     let alloc = rt.alloc();

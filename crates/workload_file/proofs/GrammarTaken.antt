@@ -43,7 +43,7 @@ unfolding Run
 run_append a b c [] ys first second = subst (λ (r : Reader). Run r ys c) (sym first) second
 run_append a b c (x ∷ xs) ys first second = (first.0, first.1, run_append first.0 b c xs ys first.2 second)
 
-take_blank : (stage : Stage) (tables : List Decl) (sessions : List (List Piece)) → take_at stage tables sessions Blank ≡ Ok (at tables sessions stage)
+pub take_blank : (stage : Stage) (tables : List Decl) (sessions : List (List Piece)) → take_at stage tables sessions Blank ≡ Ok (at tables sessions stage)
 unfolding take_at opened declaring in_session after_end
 take_blank Opening tables sessions = refl
 take_blank Declaring tables sessions = refl

@@ -20,3 +20,5 @@ pub mod GrammarRead
 pub mod GrammarRun
 pub mod GrammarTaken
 pub mod TwinOnce
+pub mod ShapedActs
+pub mod ShapedRuns

@@ -1,12 +1,13 @@
 -- The bytes of a file give one verdict as two workloads.
-use Rattle.std.proofs.Common.{◌≡◌, ◌⊎◌, ℕ, suc, ◌+◌, ◌<◌, ◌≤◌, Bool, true, false, List, [], ◌∷◌, ◌++◌, length, map, Result, Ok, Err, refl, ap, sym, ◌∙◌, subst, arith, append-nil, length-append, inl, inr}
+use Rattle.std.proofs.Common.{◌≡◌, ◌⊎◌, ℕ, suc, ◌+◌, ◌≤◌, Bool, true, false, List, [], ◌∷◌, ◌++◌, length, map, Result, Ok, Err, refl, ap, sym, ◌∙◌, subst, arith, append-nil, inl, inr}
+use Rattle.std.specs.Result.{IfErr, IfOk}
 use Rattle.sql_text.specs.declared.frames.Frame.TheVariants as frame
 use Rattle.workload.specs.declared.script.Decl.{Decl}
 use Rattle.workload.specs.declared.script.Piece.{Piece}
 use Rattle.workload.specs.declared.script.Workload.{Workload}
 use Rattle.workload_file.specs.FileLines.{IsLine, lines_of, without_return}
 use Rattle.workload_file.specs.Steps.{after_end, at, start, take, take_at}
-use Rattle.workload_file.specs.TwinFile.{AreTwins, AreTwo, DifferAt, Follows, GivesTwinVerdict, GivesTwo, GivesTwoUnless, HaveTwoShapes, IsCut, IsFirstFault, IsSecondFault, IsTwinFault, SaidLine, Say, TwinVerdict, shape_of}
+use Rattle.workload_file.specs.TwinFile.{AreReadAs, AreTwins, AreTwo, DifferAt, Follows, GivesTwinVerdict, GivesTwo, GivesTwoUnless, HaveTwoShapes, IsCut, IsFirstFault, IsSecondFault, IsTwinFault, IsTwinFile, IsTwinRefusal, SaidLine, Say, TwinVerdict, shape_of}
 use Rattle.workload_file.specs.WorkloadFile.{Goes, Leads, NextLine, Verdict, ended_at, is_too_long}
 use Rattle.workload_file.specs.declared.lines.Line.{Line}
 use Rattle.workload_file.specs.declared.lines.Line.TheVariants.{Blank, Framed, Stated, Faulty}
@@ -15,6 +16,7 @@ use Rattle.workload_file.specs.declared.reader.Stage.{Stage}
 use Rattle.workload_file.specs.declared.reader.Stage.TheVariants.{Opening, Declaring, Session, Ended}
 use Rattle.workload_file.specs.declared.stops.FileReason.{FileReason}
 use Rattle.workload_file.specs.declared.stops.FileReason.TheVariants as reason
+use Rattle.workload_file.specs.declared.stops.FileStop.{FileStop}
 use Rattle.workload_file.specs.declared.stops.FileStop.TheVariants.{Bad, OutOfMemory}
 use Rattle.workload_file.proofs.OneVerdict.{one_leads, one_line, one_next}
 use Rattle.workload_file.proofs.TwinEnds.{nothing_behind}
@@ -204,7 +206,7 @@ differ_once (x ∷ xs) (y ∷ ys) n m (inl a) (inr b) = absurd (b.0 a.0)
 differ_once (x ∷ xs) (y ∷ ys) n m (inr a) (inl b) = absurd (a.0 b.0)
 differ_once (x ∷ xs) (y ∷ ys) n m (inr a) (inr b) = a.1 ∙ sym b.1
 
-head_same : (x y : SaidLine) (xs ys : List SaidLine) → map shape_of (x ∷ xs) ≡ map shape_of (y ∷ ys) → (shape_of x ≡ shape_of y) × (map shape_of xs ≡ map shape_of ys)
+pub head_same : (x y : SaidLine) (xs ys : List SaidLine) → map shape_of (x ∷ xs) ≡ map shape_of (y ∷ ys) → (shape_of x ≡ shape_of y) × (map shape_of xs ≡ map shape_of ys)
 head_same x y xs ys e = (cc, cc)
 
 differ_apart : (xs ys : List SaidLine) (n : ℕ) → map shape_of xs ≡ map shape_of ys → DifferAt xs ys n → ⊥
@@ -362,3 +364,10 @@ unless_once false bytes a b x y = gives_once (lines_of bytes) a b x y
 
 pub one_twin_verdict : (bytes : List ℕ) (a b : TwinVerdict) → GivesTwinVerdict bytes a → GivesTwinVerdict bytes b → a ≡ b
 one_twin_verdict bytes a b x y = unless_once (is_too_long bytes) bytes a b x y
+
+-- two workloads that the bytes give are what was read
+pub twins_complete : (bytes : List ℕ) (verdict : TwinVerdict) → IfOk verdict (λ (pair : Workload × Workload). IsTwinFile bytes pair) → IfErr verdict (λ (stop : FileStop). IsTwinRefusal bytes stop)
+    → (pair : Workload × Workload) → IsTwinFile bytes pair → AreReadAs pair verdict
+twins_complete bytes (Ok read) gives fault pair is = (let same : Ok read ≡ Ok pair = one_twin_verdict bytes (Ok read) (Ok pair) gives is in cc)
+twins_complete bytes (Err OutOfMemory) gives fault pair is = refl
+twins_complete bytes (Err (Bad line why)) gives fault pair is = absurd (let same : Err (Bad line why) ≡ Ok pair = one_twin_verdict bytes (Err (Bad line why)) (Ok pair) fault is in let no : ⊥ = cc in no)

@@ -128,6 +128,11 @@ GivesTwinVerdict bytes verdict = GivesTwoUnless (is_too_long bytes) bytes verdic
 abbrev pub IsTwinFile : List ℕ → Workload × Workload → Type 0
 IsTwinFile bytes pair = GivesTwinVerdict bytes (Ok pair)
 
+-- the two workloads were read, unless memory did not suffice
+abbrev pub AreReadAs : Workload × Workload → TwinVerdict → Type 0
+AreReadAs pair (Ok read) = read ≡ pair
+AreReadAs pair (Err stop) = stop ≡ OutOfMemory
+
 -- they spell no two workloads of one shape, and this is the first fault; or memory did not suffice
 abbrev pub IsTwinRefusal : List ℕ → FileStop → Type 0
 IsTwinRefusal bytes (Bad number why) = GivesTwinVerdict bytes (Err (Bad number why))

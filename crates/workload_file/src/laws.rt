@@ -1,6 +1,6 @@
 //! Laws of files. Each function is empty: its contract is the law.
 ghost use Rattle.workload_file.specs.GeneratedLaws.{GeneratedIsAWorkload};
-ghost use Rattle.workload_file.specs.Theorems.{FilesGiveOneVerdict, TwinFilesGiveOneVerdict, WorkloadsReadAreValid};
+ghost use Rattle.workload_file.specs.Theorems.{FilesGiveOneVerdict, TwinFilesGiveOneVerdict, TwinsHaveOneShape, WorkloadsReadAreValid};
 ghost use Rattle.workload_file.specs.WorkloadGrammar.{WorkloadsAreReadAsSpelled};
 
 /// The bytes of a file give one verdict at most: one workload, or one line with one reason.
@@ -29,4 +29,9 @@ pub fn workloads_are_read_as_spelled()
 /// The bytes of a file of two workloads give one verdict at most: the two, or one line with one reason.
 pub fn twin_files_give_one_verdict()
     ensures { TwinFilesGiveOneVerdict }
+{}
+
+/// Two workloads whose lines have one shape differ in their constants at most.
+pub fn twins_have_one_shape()
+    ensures { TwinsHaveOneShape }
 {}

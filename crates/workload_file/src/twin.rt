@@ -1,10 +1,12 @@
 //! The reader of a file of two workloads.
 ghost use Rattle.std.specs.Prelude.{◌≡◌, ◌+◌, ◌<◌, ◌≤◌, ◌^◌, length, IfOk, IfErr, IfSome, MatchOption};
 ghost use Rattle.workload.specs.Validity.{IsValid};
+ghost use Rattle.workload.specs.declared.script.Workload.{Workload as WorkloadValue};
 ghost use Rattle.workload_file.specs.FileLines.{lines_of};
 ghost use Rattle.workload_file.specs.LineTexts.{IsAllSaid, IsComparison, IsNextSaid, says_nothing};
+ghost use Rattle.workload_file.specs.Shapes.{HaveOneShape};
 ghost use Rattle.workload_file.specs.Steps.{stage_ended};
-ghost use Rattle.workload_file.specs.TwinFile.{IsFirst, IsFirstStop, IsTwinFile, IsTwinRefusal, SaidLine, Say};
+ghost use Rattle.workload_file.specs.TwinFile.{AreReadAs, IsFirst, IsFirstStop, IsTwinFile, IsTwinRefusal, SaidLine, Say};
 
 use crate::lines::{Line, first_line, read_line, without_return};
 use crate::reader::{Reader, Stage, start};
@@ -19,11 +21,14 @@ use workload::Workload;
 /// reason.
 ///
 /// Line numbers run on. Where both are workloads, but of two shapes, the line is that of the second at which its shape
-/// first differs.
+/// first differs. The shape is that of the lines: a statement alone and the same between BEGIN and COMMIT are two, and so
+/// are `SELECT *` and the same columns listed.
 pub fn read_twin(alloc: Global, bytes: &[u8]) -> Result<(Workload, Workload), FileStop>
     ensures read { IfOk result (λ pair. IsTwinFile bytes.now pair) }
     ensures valid { IfOk result (λ pair. IsValid pair.0 × IsValid pair.1) }
+    ensures shape { IfOk result (λ pair. HaveOneShape pair.0 pair.1) }
     ensures fault { IfErr result (λ stop. IsTwinRefusal bytes.now stop) }
+    ensures complete { (pair : WorkloadValue × WorkloadValue) → IsTwinFile bytes.now pair → AreReadAs pair result }
 {
     if bytes.len() > BYTES_MOST {
         let reason = FileReason::InputTooLong;

@@ -13,8 +13,8 @@ use crate::{
 use path_code::Recode;
 use std::alloc::Global;
 
-/// The limit of rows of the tests' tables.
-const LIMIT: u32 = 65_536;
+/// The limit of rows of the tests' tables: few, since each row is a commit of its own.
+const LIMIT: u32 = 1_024;
 
 /// A list of one element.
 fn one<T: Drop>(alloc: Global, x: T) -> Result<Items<T>, OutOfMemory>
@@ -247,7 +247,7 @@ fn commit_across_install(rt: HostRuntime) -> Result<(), OutOfMemory> {
     Ok(())
 }
 
-// A version of 65,536 rows is full, and one of a row less isn't.
+// A table of as many rows as the limit is full, and one of a row less isn't.
 #[test]
 fn full_table(rt: HostRuntime) -> Result<(), OutOfMemory> {
     let most = ascending(rt.alloc(), Mode::Ordinary, LIMIT - 1)?;
@@ -256,8 +256,8 @@ fn full_table(rt: HostRuntime) -> Result<(), OutOfMemory> {
     let (all, _changes) = put(rt.alloc(), &most, Place::Gap(LIMIT - 1), u64::from(LIMIT))?;
     let table = all.table(TableNo(0)).expect(&rt, "a table");
     assert!(rt; table.full());
-    assert_eq!(rt; table.rows(), 65_536);
-    assert_eq!(rt; all.number(), 65_536);
+    assert_eq!(rt; table.rows(), 1_024);
+    assert_eq!(rt; all.number(), 1_024);
     Ok(())
 }
 

@@ -156,7 +156,7 @@ meets_once s c client k conn r answer wanted allows served heard =
 
 -- ---- the tables afterwards
 
-columns-in : (stores : List (Store Cell)) (t : TableNo) → t.0 < length stores → columns_in stores t.0 ≡ (store_at stores t).columns
+pub columns-in : (stores : List (Store Cell)) (t : TableNo) → t.0 < length stores → columns_in stores t.0 ≡ (store_at stores t).columns
 unfolding columns_in store_at
 columns-in stores t lt = get_or-map (λ (u : Store Cell). u.columns) stores t.0 (empty_store Cell 0) [] lt
 

@@ -8,3 +8,10 @@ pub mod AskedPlans
 pub mod ReadingRows
 pub mod Replying
 pub mod Querying
+pub mod PlainTables
+pub mod KeptOps
+pub mod Statements
+pub mod Stepping
+pub mod AskStepping
+pub mod Transacting
+pub mod Reading

@@ -5,3 +5,5 @@ pub mod Constants
 pub mod Inserts
 pub mod Ends
 pub mod Queries
+pub mod Transactions
+pub mod Readable

@@ -3,6 +3,8 @@ ghost use Rattle.transaction_laws.specs.Constants.{ConstantsMeet};
 ghost use Rattle.transaction_laws.specs.Ends.{BeginMeets, CloseMeets, CommitMeets, ConflictMeets, InstallMeets, StaleMeets};
 ghost use Rattle.transaction_laws.specs.Inserts.{FullMeets, InsertMeets};
 ghost use Rattle.transaction_laws.specs.Queries.{QueryMeets};
+ghost use Rattle.transaction_laws.specs.Readable.{AllowedIsReadable, MessagesAreReadable};
+ghost use Rattle.transaction_laws.specs.Transactions.{TransactionMeets};
 ghost use Rattle.transaction_laws.specs.Walks.{WalkMeets};
 
 /// A walk finds the place of its value.
@@ -59,4 +61,20 @@ pub fn install_meets()
 /// A REBUILD that finds its table changed.
 pub fn stale_meets()
     ensures { StaleMeets }
+{}
+
+/// A transaction from its begin to its end: client and connection meet, the answers are those on plain tables, and the connection keeps
+/// the world's operations and tables with each cell sealed.
+pub fn transaction_meets()
+    ensures { TransactionMeets }
+{}
+
+/// Some bytes give every reply that a client allows.
+pub fn allowed_is_readable()
+    ensures { AllowedIsReadable }
+{}
+
+/// Some bytes give every message of the statements of a valid transaction.
+pub fn messages_are_readable()
+    ensures { MessagesAreReadable }
 {}

@@ -15,3 +15,4 @@ pub mod Stepping
 pub mod AskStepping
 pub mod Transacting
 pub mod Reading
+pub mod Computed

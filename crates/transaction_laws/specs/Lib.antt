@@ -7,3 +7,4 @@ pub mod Ends
 pub mod Queries
 pub mod Transactions
 pub mod Readable
+pub mod Examples

@@ -1,0 +1,130 @@
+-- Worked examples: whole transactions over a table of one column, for every key. The world's exchanges are these, and the connection, which
+-- has the sealed cells alone, gives the same replies.
+use Rattle.std.specs.Prelude.{◌≡◌, ℕ, ◌-◌, ◌^◌, Bool, true, false, List, [], ◌∷◌, ◌++◌, map, None}
+use Rattle.mope_base.specs.declared.body.Body.{Body}
+use Rattle.mope_base.specs.declared.numbers.TableNo.{TableNo}
+use Rattle.mope_base.specs.declared.numbers.ColNo.{ColNo}
+use Rattle.sql_text.specs.declared.Test.{Test}
+use Rattle.sql_text.specs.declared.Test.TheVariants as test
+use Rattle.tree_model.specs.declared.Side.TheVariants.{Left, Right}
+use Rattle.tree_model.specs.Columns.{empty_column}
+use Rattle.table_model.specs.Stores.{Store, empty_store, map_shelf, shelf_of}
+use Rattle.value_cipher.specs.Cipher.{Cell, value_of, sealed}
+use Rattle.versions.specs.Databases.{Database}
+use Rattle.walk_proto.specs.declared.messages.Asked.{Asked}
+use Rattle.walk_proto.specs.declared.messages.Exchange.{Exchange}
+use Rattle.walk_proto.specs.declared.messages.Reply.TheVariants as reply
+use Rattle.walk_proto.specs.declared.messages.Request.TheVariants as request
+use Rattle.workload.specs.declared.script.Act.{Act}
+use Rattle.workload.specs.declared.script.Act.TheVariants as act
+use Rattle.workload.specs.declared.script.Answer.TheVariants as answer
+use Rattle.workload.specs.declared.script.Verb.{Verb}
+use Rattle.workload.specs.declared.script.Verb.TheVariants as verb
+use Rattle.workload.specs.Transaction.{stopped, started, work_of}
+use Rattle.proxy.specs.Client.{Setting}
+use Rattle.server_conn.specs.Connections.{held_on, idle, holds}
+use Rattle.server_conn.specs.Logs.{Answers, conn_after}
+use Rattle.transaction_laws.specs.Walks.{exchanged}
+use Rattle.transaction_laws.specs.Transactions.{plain_database, tried_on, acts_tried, acts_log}
+
+abbrev pub t : TableNo
+t = record { 0 = 0 }
+
+abbrev pub a : ColNo
+a = record { 0 = 0 }
+
+-- the first session, from nonce 0
+abbrev pub first_session : List ℕ → Setting
+first_session key = record { key = key; first = 0; session = record { 0 = 1 } }
+
+abbrev pub insert : ℕ → Act
+insert x = act.Insert t (x ∷ [])
+
+abbrev pub ask : Verb → Test → Act
+ask v x = act.Ask (record { table = t; verb = v; tests = (a, x) ∷ [] })
+
+-- a statement with one condition as it is sent
+abbrev pub asked : ℕ → List ℕ → ℕ → Asked
+asked v columns op = record { table = t; verb = v; target = 0; order = 0; order_column = 0; limit = None; columns = columns; conds = (0, op) ∷ [] }
+
+-- the body of a value, sealed after so many others
+abbrev pub body : List ℕ → ℕ → ℕ → Body
+body key count x = sealed key (record { nonce = count; value = x })
+
+-- a table of one column without rows, whose next row has this number; and the version that stands for it
+abbrev pub empty_from : ℕ → List (Store Cell)
+empty_from next = record { rows = []; next = next; columns = empty_column Cell ∷ [] } ∷ []
+
+abbrev pub version : List ℕ → Bool → List (Store Cell) → Database
+version key same_time stores = record { number = 0; same_time = same_time; limit = 65536; shelves = map (map_shelf (sealed key)) (map (shelf_of value_of) stores); stamps = [] }
+
+-- statements have these exchanges in the world, and the connection gives their replies
+pub record Exchanges (key : List ℕ) (same_time : Bool) (stores : List (Store Cell)) (acts : List Act) (log : List Exchange) : Type 0 where
+  pub world : acts_log (first_session key) same_time acts (tried_on stores 0) ≡ log
+  pub served : Answers (holds (held_on (version key same_time stores))) log
+
+-- ---- a full table: the second INSERT finds no number left for its row; the transaction ends, and its last statement isn't sent
+
+abbrev pub full_acts : List Act
+full_acts = insert 7 ∷ insert 8 ∷ ask verb.Count (test.Eq 7) ∷ []
+
+abbrev pub full_log : List ℕ → List Exchange
+full_log key =
+    exchanged (request.WalkStart t a) reply.Placed ∷ exchanged (request.Insert t (body key 0 7 ∷ [])) (reply.Count 1)
+    ∷ exchanged (request.WalkStart t a) (reply.Node (body key 0 7)) ∷ exchanged (request.Go Right) reply.Placed ∷ exchanged (request.Insert t (body key 1 8 ∷ [])) (reply.No 0 0) ∷ []
+
+pub record MeetsFull (key : List ℕ) : Type 0 where
+  pub exchanges : Exchanges key false (empty_from (2 ^ 63 - 1)) full_acts (full_log key)
+  pub answers : (work_of (acts_tried (first_session key) false full_acts (tried_on (empty_from (2 ^ 63 - 1)) 0)).plain).answers ≡ answer.Inserted ∷ []
+  pub sealed_both : (acts_tried (first_session key) false full_acts (tried_on (empty_from (2 ^ 63 - 1)) 0)).seals ≡ 2
+  pub ended : conn_after (holds (held_on (version key false (empty_from (2 ^ 63 - 1))))) (full_log key) ≡ idle
+
+-- ---- BETWEEN a greater and a smaller constant gives no row, the other way about both
+
+abbrev pub between_acts : List Act
+between_acts = insert 1 ∷ insert 5 ∷ ask (verb.Rows (a ∷ []) None None) (test.Between 5 1) ∷ ask (verb.Rows (a ∷ []) None None) (test.Between 1 5) ∷ []
+
+-- the walks for 1 and for 5
+abbrev pub finds_one : List ℕ → List Exchange
+finds_one key = exchanged (request.WalkStart t a) (reply.Node (body key 0 1)) ∷ exchanged request.Found reply.Placed ∷ []
+
+abbrev pub finds_five : List ℕ → List Exchange
+finds_five key = exchanged (request.WalkStart t a) (reply.Node (body key 0 1)) ∷ exchanged (request.Go Right) (reply.Node (body key 1 5)) ∷ exchanged request.Found reply.Placed ∷ []
+
+abbrev pub between_log : List ℕ → List Exchange
+between_log key =
+    (exchanged (request.WalkStart t a) reply.Placed ∷ exchanged (request.Insert t (body key 0 1 ∷ [])) (reply.Count 1)
+    ∷ exchanged (request.WalkStart t a) (reply.Node (body key 0 1)) ∷ exchanged (request.Go Right) reply.Placed ∷ exchanged (request.Insert t (body key 1 5 ∷ [])) (reply.Count 1) ∷ [])
+    ++ (finds_five key ++ finds_one key ++ exchanged (request.Query (asked 0 (0 ∷ []) 5)) (reply.Rows 1 []) ∷ [])
+    ++ (finds_one key ++ finds_five key ++ exchanged (request.Query (asked 0 (0 ∷ []) 5)) (reply.Rows 1 (body key 0 1 ∷ body key 1 5 ∷ [])) ∷ [])
+
+pub record InvertedBetween (key : List ℕ) (same_time : Bool) : Type 0 where
+  pub exchanges : Exchanges key same_time (empty_from 1) between_acts (between_log key)
+  pub answers : (work_of (acts_tried (first_session key) same_time between_acts (tried_on (empty_from 1) 0)).plain).answers
+      ≡ answer.Inserted ∷ answer.Inserted ∷ answer.Rows 1 [] ∷ answer.Rows 1 (1 ∷ 5 ∷ []) ∷ []
+
+-- ---- a walk for a value whose rows are deleted: in ordinary mode its item is still there, in same-time mode it has gone
+
+abbrev pub deleted_acts : List Act
+deleted_acts = insert 5 ∷ insert 3 ∷ insert 4 ∷ ask verb.Delete (test.Eq 3) ∷ ask verb.Count (test.Eq 3) ∷ []
+
+-- up to the DELETE
+abbrev pub deleted_log : List ℕ → List Exchange
+deleted_log key =
+    exchanged (request.WalkStart t a) reply.Placed ∷ exchanged (request.Insert t (body key 0 5 ∷ [])) (reply.Count 1)
+    ∷ exchanged (request.WalkStart t a) (reply.Node (body key 0 5)) ∷ exchanged (request.Go Left) reply.Placed ∷ exchanged (request.Insert t (body key 1 3 ∷ [])) (reply.Count 1)
+    ∷ exchanged (request.WalkStart t a) (reply.Node (body key 0 5)) ∷ exchanged (request.Go Left) (reply.Node (body key 1 3)) ∷ exchanged (request.Go Right) reply.Placed ∷ exchanged (request.Insert t (body key 2 4 ∷ [])) (reply.Count 1)
+    ∷ exchanged (request.WalkStart t a) (reply.Node (body key 0 5)) ∷ exchanged (request.Go Left) (reply.Node (body key 1 3)) ∷ exchanged request.Found reply.Placed ∷ exchanged (request.Query (asked 4 [] 0)) (reply.Count 1) ∷ []
+
+-- after it: the item of 3 stands there; or that of 4 has come into its place
+abbrev pub stays_log : List ℕ → List Exchange
+stays_log key =
+    exchanged (request.WalkStart t a) (reply.Node (body key 0 5)) ∷ exchanged (request.Go Left) (reply.Node (body key 1 3)) ∷ exchanged request.Found reply.Placed ∷ exchanged (request.Query (asked 1 [] 0)) (reply.Count 0) ∷ []
+
+abbrev pub gone_log : List ℕ → List Exchange
+gone_log key =
+    exchanged (request.WalkStart t a) (reply.Node (body key 0 5)) ∷ exchanged (request.Go Left) (reply.Node (body key 2 4)) ∷ exchanged (request.Go Left) reply.Placed ∷ exchanged (request.Query (asked 1 [] 0)) (reply.Count 0) ∷ []
+
+pub record WalksOverDeleted (key : List ℕ) : Type 0 where
+  pub ordinary : Exchanges key false (empty_from 1) deleted_acts (deleted_log key ++ stays_log key)
+  pub same_time : Exchanges key true (empty_from 1) deleted_acts (deleted_log key ++ gone_log key)

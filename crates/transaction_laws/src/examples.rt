@@ -1,0 +1,18 @@
+//! What client and connection exchange on worked examples, computed by the checker. Each function is empty: its contract is the example.
+ghost use Rattle.std.specs.Prelude.{ℕ, Bool, List};
+ghost use Rattle.transaction_laws.specs.Examples.{InvertedBetween, MeetsFull, WalksOverDeleted};
+
+/// A transaction that meets a full table.
+pub fn full_table()
+    ensures { (key : List ℕ) → MeetsFull key }
+{}
+
+/// BETWEEN a greater and a smaller constant.
+pub fn inverted_between()
+    ensures { (key : List ℕ) (same_time : Bool) → InvertedBetween key same_time }
+{}
+
+/// Walks in a column with deleted items, in both modes.
+pub fn walks_over_deleted()
+    ensures { (key : List ℕ) → WalksOverDeleted key }
+{}

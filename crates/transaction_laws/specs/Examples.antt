@@ -11,8 +11,10 @@ use Rattle.tree_model.specs.Columns.{empty_column}
 use Rattle.table_model.specs.Stores.{Store, empty_store, map_shelf, shelf_of}
 use Rattle.value_cipher.specs.Cipher.{Cell, value_of, sealed}
 use Rattle.versions.specs.Databases.{Database}
+use Rattle.versions.specs.Operations.{rank_ops, with_ops}
 use Rattle.walk_proto.specs.declared.messages.Asked.{Asked}
 use Rattle.walk_proto.specs.declared.messages.Exchange.{Exchange}
+use Rattle.walk_proto.specs.declared.messages.How.TheVariants as how
 use Rattle.walk_proto.specs.declared.messages.Reply.TheVariants as reply
 use Rattle.walk_proto.specs.declared.messages.Request.TheVariants as request
 use Rattle.workload.specs.declared.script.Act.{Act}
@@ -22,10 +24,11 @@ use Rattle.workload.specs.declared.script.Verb.{Verb}
 use Rattle.workload.specs.declared.script.Verb.TheVariants as verb
 use Rattle.workload.specs.Transaction.{stopped, started, work_of}
 use Rattle.proxy.specs.Client.{Setting}
-use Rattle.server_conn.specs.Connections.{held_on, idle, holds}
+use Rattle.server_conn.specs.Connections.{held_on, idle, begins, holds, wants_begin, wants_commit}
 use Rattle.server_conn.specs.Logs.{Answers, conn_after}
+use Rattle.server_conn.specs.Serving.{serve, began, step_to}
 use Rattle.transaction_laws.specs.Walks.{exchanged}
-use Rattle.transaction_laws.specs.Transactions.{plain_database, tried_on, acts_tried, acts_log}
+use Rattle.transaction_laws.specs.Transactions.{Tried, plain_database, tried_on, acts_tried, acts_log, kept_ops}
 
 abbrev pub t : TableNo
 t = record { 0 = 0 }
@@ -128,3 +131,41 @@ gone_log key =
 pub record WalksOverDeleted (key : List ℕ) : Type 0 where
   pub ordinary : Exchanges key false (empty_from 1) deleted_acts (deleted_log key ++ stays_log key)
   pub same_time : Exchanges key true (empty_from 1) deleted_acts (deleted_log key ++ gone_log key)
+
+-- ---- the example of a view: 5 is put in, and a second transaction counts it between 1 and 9
+
+abbrev pub put_acts : List Act
+put_acts = insert 5 ∷ []
+
+abbrev pub count_acts : List Act
+count_acts = ask verb.Count (test.Between 1 9) ∷ []
+
+abbrev pub put_log : List ℕ → List Exchange
+put_log key = exchanged (request.WalkStart t a) reply.Placed ∷ exchanged (request.Insert t (body key 0 5 ∷ [])) (reply.Count 1) ∷ []
+
+abbrev pub count_log : List ℕ → List Exchange
+count_log key =
+    exchanged (request.WalkStart t a) (reply.Node (body key 0 5)) ∷ exchanged (request.Go Left) reply.Placed
+    ∷ exchanged (request.WalkStart t a) (reply.Node (body key 0 5)) ∷ exchanged (request.Go Right) reply.Placed ∷ exchanged (request.Query (asked 1 [] 5)) (reply.Count 1) ∷ []
+
+abbrev pub first_version : List ℕ → Database
+first_version key = version key false (empty_from 1)
+
+-- the world's transaction that puts it in
+abbrev pub put_in : List ℕ → Tried
+put_in key = acts_tried (first_session key) false put_acts (tried_on (empty_from 1) 0)
+
+-- the version that its commit makes
+abbrev pub next_version : List ℕ → Database
+next_version key = with_ops (rank_ops (kept_ops key false (put_in key).ops (empty_from 1))) (first_version key)
+
+-- both transactions, from begin to end: the exchanges that hold turns, and all others
+pub record ExampleView (key : List ℕ) : Type 0 where
+  pub waits : serve request.Begin idle ≡ record { served = wants_begin; conn = begins }
+  pub begins_first : began (first_version key) ≡ step_to (reply.Ended how.Began 0 0) (holds (held_on (first_version key)))
+  pub put : Exchanges key false (empty_from 1) put_acts (put_log key)
+  pub commits_as : (serve (request.End true) (conn_after (holds (held_on (first_version key))) (put_log key))).served ≡ wants_commit
+  pub begins_second : began (next_version key) ≡ step_to (reply.Ended how.Began 0 1) (holds (held_on (next_version key)))
+  pub counts : acts_log (first_session key) false count_acts (tried_on (put_in key).stores 1) ≡ count_log key
+  pub served : Answers (holds (held_on (next_version key))) (count_log key ++ exchanged (request.End true) (reply.Ended how.Closed 0 1) ∷ [])
+  pub answers : (work_of (acts_tried (first_session key) false count_acts (tried_on (put_in key).stores 1)).plain).answers ≡ answer.Count 1 ∷ []

@@ -1,6 +1,6 @@
 //! What client and connection exchange on worked examples, computed by the checker. Each function is empty: its contract is the example.
 ghost use Rattle.std.specs.Prelude.{ℕ, Bool, List};
-ghost use Rattle.transaction_laws.specs.Examples.{InvertedBetween, MeetsFull, WalksOverDeleted};
+ghost use Rattle.transaction_laws.specs.Examples.{ExampleView, InvertedBetween, MeetsFull, WalksOverDeleted};
 
 /// A transaction that meets a full table.
 pub fn full_table()
@@ -15,4 +15,10 @@ pub fn inverted_between()
 /// Walks in a column with deleted items, in both modes.
 pub fn walks_over_deleted()
     ensures { (key : List ℕ) → WalksOverDeleted key }
+{}
+
+/// The example of a view: a value is put in, and a second transaction counts it between two others. What the client sends in it,
+/// the client's own example says.
+pub fn example_view()
+    ensures { (key : List ℕ) → ExampleView key }
 {}

@@ -6,6 +6,7 @@ use Rattle.mope_base.specs.declared.numbers.ColNo.{ColNo}
 use Rattle.table_model.specs.Stores.{Row, Store}
 use Rattle.table_model.specs.Soundness.{numbers_of, Sound}
 use Rattle.table_model.specs.Operations.{ValueOp, DeleteRows, ops_on, placed_op, placed_ops, map_rank_op}
+use Rattle.table_model.specs.Fitting.{AllFit}
 use Rattle.value_cipher.specs.Cipher.{Cell, value_of}
 use Rattle.versions.specs.Databases.{Database}
 use Rattle.versions.specs.declared.op.Op.{Op}
@@ -37,9 +38,9 @@ use Rattle.transaction_laws.specs.Transactions.{plain_row, plain_table, plain_da
 use Rattle.transaction_laws.proofs.Meeting.{meets_then}
 use Rattle.transaction_laws.proofs.Walking.{ending_at}
 use Rattle.transaction_laws.proofs.Shown.{shown-sound}
-use Rattle.transaction_laws.proofs.Querying.{declared-tables, declared-columns, query_meets}
+use Rattle.transaction_laws.proofs.Querying.{declared-tables, declared-columns, asked-fits, query_meets}
 use Rattle.transaction_laws.proofs.PlainTables.{plain-at, plain-about, plain-answer, plain-left}
-use Rattle.transaction_laws.proofs.KeptOps.{ops_on-append, kept-append, held-same, ops-widths}
+use Rattle.transaction_laws.proofs.KeptOps.{ops_on-append, kept-append, fit-append, held-same, ops-widths}
 use Rattle.transaction_laws.proofs.Statements.{few-constants, constants-within}
 use Rattle.transaction_laws.proofs.Stepping.{Runs, Setup, Stepped, at_work, shows-marks, found}
 
@@ -208,9 +209,15 @@ module _ (s : Setting) (tables : List Decl) (d : Database) (base : List (Store C
   unfolding with_marks held_in
   asked-shows = goes.shows
 
+  asked-fit : AllFit d.same_time value_of d.limit (ops ++ done) base
+  unfolding held_in
+  asked-fit =
+      fit-append d.same_time d.limit ops done base runs.fit (subst (λ (u : List (Store Cell)). AllFit d.same_time value_of d.limit done u) runs.made (asked-fits d.same_time d.limit ask stores (shown-sound s.key stores held ask.table runs.shows there) there))
+
   asked-runs : Runs s tables d base after
   unfolding tried_by ops_of work_of
   asked-runs = record {
+    fit = asked-fit;
     shows = subst (λ (h : Held). Shows s.key (ops_on d.same_time value_of done stores) h) asked-same asked-shows;
     declared = ops-widths d.same_time done stores ∙ runs.declared;
     made = sym (ops_on-append d.same_time ops done base ∙ ap (ops_on d.same_time value_of done) (sym runs.made));

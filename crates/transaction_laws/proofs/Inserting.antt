@@ -164,13 +164,20 @@ pub rows-in : (stores : List (Store Cell)) (t : TableNo) → t.0 < length stores
 unfolding rows_in store_at
 rows-in stores t lt = get_or-map (λ (u : Store Cell). u.rows) stores t.0 (empty_store Cell 0) [] lt
 
+-- the row fits the world's table
+pub insert-fits : (s : Setting) (t : TableNo) (xs : List ℕ) (stores : List (Store Cell)) (count : ℕ) (h : Held) → MayInsert s t xs stores h → length (store_at stores t).rows < h.base.limit → FitsInsert Cell h.base.limit t.0 (cells_from s count xs) stores
+insert-fits s t xs stores count h may room = record {
+  there = may.there;
+  wide = length-cells s count xs ∙ may.wide ∙ sym (ap length (columns-in stores t may.there));
+  room = subst (λ (rows : List (Row Cell)). length rows < h.base.limit) (sym (rows-in stores t may.there)) room;
+}
+
 stands-again : (s : Setting) (t : TableNo) (xs : List ℕ) (stores : List (Store Cell)) (c : Client) (h : Held) → MayInsert s t xs stores h → length (store_at stores t).rows < h.base.limit → Shows s.key (op_on h.base.same_time value_of (InsertCells t.0 (cells_of_row s c xs)) stores) (with_row s.key t (cells_of_row s c xs) (store_at stores t) h)
 unfolding with_row after_statement with_op cells_of_row placed_ops placed_op map_rank_op rank_ops_on rank_op_on ops_on AllFit OpFits
 stands-again s t xs stores c h may room =
     let cells = cells_from s c.seals xs in
     let store = store_at stores t in
-    let wide : length cells ≡ length (columns_in stores t.0) = length-cells s c.seals xs ∙ may.wide ∙ sym (ap length (columns-in stores t may.there)) in
-    let fit : FitsInsert Cell h.base.limit t.0 cells stores = record { there = may.there; wide = wide; room = subst (λ (rows : List (Row Cell)). length rows < h.base.limit) (sym (rows-in stores t may.there)) room } in
+    let fit : FitsInsert Cell h.base.limit t.0 cells stores = insert-fits s t xs stores c.seals h may room in
     let stand = (operations_stand (sealed s.key) value_of h.base.same_time h.base.limit (InsertCells t.0 cells ∷ []) stores stores h.shelves may.shows.stand may.shows.stand.sound (same-all stores) (fit, tt)).stand in
     record {
       stand = subst (λ (cs : List (Column Cell)). AllStand Body Cell (sealed s.key) value_of h.base.same_time h.base.limit (change_at (insert_row h.base.same_time (places_by value_of cs cells) (map (sealed s.key) cells)) h.shelves t.0) (op_on h.base.same_time value_of (InsertCells t.0 cells) stores)) (columns-in stores t may.there) stand;

@@ -9,6 +9,7 @@ use Rattle.table_model.specs.Steps.{adds, drops, places_by}
 use Rattle.table_model.specs.Stores.{ranks_by}
 use Rattle.table_model.specs.Changes.{insert_cells, delete_number, delete_numbers, cells_of}
 use Rattle.table_model.specs.Operations.{ValueOp, InsertCells, DeleteRows, RankOp, op_on, ops_on, placed_op, placed_ops, map_rank_op}
+use Rattle.table_model.specs.Fitting.{AllFit}
 use Rattle.table_model.proofs.Rows.{length-operate}
 use Rattle.value_cipher.specs.Cipher.{Cell, value_of, sealed}
 use Rattle.versions.specs.Databases.{Database}
@@ -38,6 +39,11 @@ kept-append key same_time ops more stores =
     let second = placed_ops same_time value_of more (ops_on same_time value_of ops stores) in
     ap (λ (placed : List (RankOp Cell)). map kept_op (map seal placed)) (placed-append same_time ops more stores)
     ∙ ap (map kept_op) (map-append seal first second) ∙ map-append kept_op (map seal first) (map seal second)
+
+pub fit-append : (same_time : Bool) (limit : ℕ) (ops more : List (ValueOp Cell)) (stores : List (Store Cell)) → AllFit same_time value_of limit ops stores → AllFit same_time value_of limit more (ops_on same_time value_of ops stores) → AllFit same_time value_of limit (ops ++ more) stores
+unfolding AllFit ops_on
+fit-append same_time limit [] more stores first second = second
+fit-append same_time limit (o ∷ ops) more stores first second = (first.0, fit-append same_time limit ops more (op_on same_time value_of o stores) first.1 second)
 
 -- ---- a transaction by its fields
 

@@ -326,11 +326,39 @@ shows-same : (s : Setting) (t : TableNo) (stores : List (Store Cell)) (h : Held)
 unfolding after_statement
 shows-same s t stores h shows = record { stand = shows.stand; low = shows.low }
 
+deleted-fits : (t : TableNo) (number : ℕ) (numbers : List ℕ) (stores : List (Store Cell)) → t.0 < length stores → IsIncreasing (number ∷ numbers) → AllAmong (numbers_of (store_at stores t).rows) (number ∷ numbers) → FitsDelete Cell t.0 (number ∷ numbers) stores
+deleted-fits t number numbers stores there up live = record {
+  there = there;
+  some = omega arith;
+  rise = up;
+  live = subst (λ (rows : List (Row Cell)). AllAmong (numbers_of rows) (number ∷ numbers)) (sym (rows-in stores t there)) live;
+}
+
+out-fits : (same_time : Bool) (limit : ℕ) (t : TableNo) (numbers : List ℕ) (stores : List (Store Cell)) → t.0 < length stores → IsIncreasing numbers → AllAmong (numbers_of (store_at stores t).rows) numbers → AllFit same_time value_of limit (rows_out t numbers) stores
+unfolding rows_out AllFit OpFits
+out-fits same_time limit t [] stores there up live = tt
+out-fits same_time limit t (number ∷ numbers) stores there up live = (deleted-fits t number numbers stores there up live, tt)
+
+fits-about : (same_time : Bool) (limit : ℕ) (t : TableNo) (v : Verb) (numbers : List ℕ) (stores : List (Store Cell)) → t.0 < length stores → OutFor v (numbers_of (store_at stores t).rows) numbers → AllFit same_time value_of limit (ops_about v t numbers) stores
+unfolding OutFor ops_about AllFit
+fits-about same_time limit t (verb.Rows columns order limited) numbers stores there out = tt
+fits-about same_time limit t verb.Count numbers stores there out = tt
+fits-about same_time limit t (verb.Min column) numbers stores there out = tt
+fits-about same_time limit t (verb.Max column) numbers stores there out = tt
+fits-about same_time limit t verb.Delete numbers stores there out = out-fits same_time limit t numbers stores there out.0 out.1
+
+-- what a statement does to the world's tables fits them
+pub asked-fits : (same_time : Bool) (limit : ℕ) (ask : Ask) (stores : List (Store Cell)) → Sound Cell value_of same_time limit (store_at stores ask.table) → ask.table.0 < length stores
+    → AllFit same_time value_of limit (ops_about ask.verb ask.table (numbers_of (rows_about ask (store_at stores ask.table)))) stores
+asked-fits same_time limit ask stores sound there =
+    let store = store_at stores ask.table in
+    fits-about same_time limit ask.table ask.verb (numbers_of (rows_about ask store)) stores there (out-about ask store (rising-front (numbers_of store.rows) (store.next ∷ []) sound.numbered))
+
 shows-deleted : (s : Setting) (t : TableNo) (number : ℕ) (numbers : List ℕ) (stores : List (Store Cell)) (h : Held) → Shows s.key stores h → t.0 < length stores → IsIncreasing (number ∷ numbers) → AllAmong (numbers_of (store_at stores t).rows) (number ∷ numbers)
     → Shows s.key (op_on h.base.same_time value_of (DeleteRows t.0 (number ∷ numbers)) stores) (after_statement t (with_op (op.Delete t (number ∷ numbers)) t (delete_rows h.base.same_time (number ∷ numbers)) h))
 unfolding after_statement with_op placed_ops placed_op map_rank_op rank_ops_on rank_op_on ops_on AllFit OpFits
 shows-deleted s t number numbers stores h shows there up live =
-    let fit : FitsDelete Cell t.0 (number ∷ numbers) stores = record { there = there; some = omega arith; rise = up; live = subst (λ (rows : List (Row Cell)). AllAmong (numbers_of rows) (number ∷ numbers)) (sym (rows-in stores t there)) live } in
+    let fit : FitsDelete Cell t.0 (number ∷ numbers) stores = deleted-fits t number numbers stores there up live in
     record {
       stand = (operations_stand (sealed s.key) value_of h.base.same_time h.base.limit (DeleteRows t.0 (number ∷ numbers) ∷ []) stores stores h.shelves shows.stand shows.stand.sound (same-all stores) (fit, tt)).stand;
       low = shows.low;

@@ -11,6 +11,7 @@ use Rattle.table_model.specs.Soundness.{numbers_of, Sound}
 use Rattle.table_model.specs.Steps.{places_by}
 use Rattle.table_model.specs.Changes.{insert_cells}
 use Rattle.table_model.specs.Operations.{ValueOp, InsertCells, DeleteRows, op_on, ops_on, placed_op, placed_ops, map_rank_op, columns_in}
+use Rattle.table_model.specs.Fitting.{AllFit, OpFits}
 use Rattle.table_model.specs.Standing.{AllStand}
 use Rattle.tree_model.specs.Columns.{Column}
 use Rattle.value_cipher.specs.Cipher.{Cell, value_of, sealed}
@@ -51,16 +52,17 @@ use Rattle.transaction_laws.proofs.Meeting.{meets_then}
 use Rattle.transaction_laws.proofs.Walking.{ending_at}
 use Rattle.transaction_laws.proofs.Shown.{shown-sound}
 use Rattle.transaction_laws.proofs.FindingConstants.{constants_meet}
-use Rattle.transaction_laws.proofs.Inserting.{columns-in, insert_meets, full_meets}
+use Rattle.transaction_laws.proofs.Inserting.{columns-in, insert-fits, insert_meets, full_meets}
 use Rattle.transaction_laws.proofs.Querying.{declared-tables, declared-columns, query_meets}
 use Rattle.transaction_laws.proofs.PlainTables.{plain-at, plain-with, plain-inserted, plain-about, plain-answer, plain-left}
-use Rattle.transaction_laws.proofs.KeptOps.{ops_on-append, kept-append, held-same, ops-widths}
+use Rattle.transaction_laws.proofs.KeptOps.{ops_on-append, kept-append, fit-append, held-same, ops-widths}
 use Rattle.transaction_laws.proofs.Statements.{few-columns, Within, values-within, values-many, few-constants, constants-within}
 
 -- what stays true from statement to statement
 pub record Runs (s : Setting) (tables : List Decl) (d : Database) (base : List (Store Cell)) (w : Tried) : Type 0 where
   pub shows : Shows s.key w.stores (held_in s.key d base w)
   pub declared : AreDeclared tables w.stores
+  pub fit : AllFit d.same_time value_of d.limit w.ops base
   pub made : w.stores ≡ ops_on d.same_time value_of w.ops base
   pub copy : plain_database w.stores ≡ (work_of w.plain).copy
   pub counted : length w.ops ≡ length (work_of w.plain).ops
@@ -145,7 +147,7 @@ module _ (s : Setting) (tables : List Decl) (d : Database) (base : List (Store C
     meets = meets_then s (doing (looks_then t (values_from 0 xs) (puts_row t xs ∷ later)) (client_in [] c world)) (doing (puts_row t xs ∷ later) (client_in [] c world)) (ending s (end.Full t) (sealing xs (client_in [] c world))) (holds held) (holds (with_marks marks held)) idle
         (walks_log s.key t (values_from 0 xs) (store_at stores t)) (exchanged (insert_request s t xs (client_in [] c world)) (reply.No 0 t.0) ∷ []) walked
         (full_meets s t xs later stores (client_in [] c world) (with_marks marks held) may-insert (none-held none));
-    runs = record { shows = runs.shows; declared = runs.declared; made = runs.made; copy = runs.copy; counted = runs.counted };
+    runs = record { shows = runs.shows; declared = runs.declared; fit = runs.fit; made = runs.made; copy = runs.copy; counted = runs.counted };
   }
 
   abbrev cells : List Cell
@@ -193,9 +195,16 @@ module _ (s : Setting) (tables : List Decl) (d : Database) (base : List (Store C
       ∙ ap (λ (u : PlainTable). with_table (plain_database stores) t (with_plain_row u xs)) (sym (plain-at stores t there))
       ∙ ap (λ (db : PlainDb). with_table db t (with_plain_row (table_of db t) xs)) runs.copy
 
-  going-runs : InsertGoes s t xs later stores (client_in [] c world) (with_marks marks held) → Runs s tables d base after
+  insert-fit : length (store_at stores t).rows < row_limit → AllFit d.same_time value_of d.limit (ops ++ InsertCells t.0 cells ∷ []) base
+  unfolding AllFit OpFits with_marks held_in
+  insert-fit room =
+      let one = insert-fits s t xs stores seals (with_marks marks held) may-insert (subst (λ (limit : ℕ). length (store_at stores t).rows < limit) (sym limit-held) room) in
+      fit-append d.same_time d.limit ops (InsertCells t.0 cells ∷ []) base runs.fit (subst (λ (u : List (Store Cell)). AllFit d.same_time value_of d.limit (InsertCells t.0 cells ∷ []) u) runs.made (one, tt))
+
+  going-runs : length (store_at stores t).rows < row_limit → InsertGoes s t xs later stores (client_in [] c world) (with_marks marks held) → Runs s tables d base after
   unfolding tried_by ops_of ops_on work_of
-  going-runs goes = record {
+  going-runs room goes = record {
+    fit = insert-fit room;
     shows = subst (λ (h : Held). Shows s.key (ops_on d.same_time value_of (InsertCells t.0 cells ∷ []) stores) h) (insert-held goes) (insert-shows goes);
     declared = ops-widths d.same_time (InsertCells t.0 cells ∷ []) stores ∙ runs.declared;
     made = sym (ops_on-append d.same_time ops (InsertCells t.0 cells ∷ []) base ∙ ap (ops_on d.same_time value_of (InsertCells t.0 cells ∷ [])) (sym runs.made));
@@ -211,7 +220,7 @@ module _ (s : Setting) (tables : List Decl) (d : Database) (base : List (Store C
         meets = ending_at s (doing (looks_then t (values_from 0 xs) (puts_row t xs ∷ later)) (client_in [] c world)) (holds held) (walks_log s.key t (values_from 0 xs) (store_at stores t) ++ exchanged (insert_request s t xs (client_in [] c world)) (reply.Count 1) ∷ []) (doing later (having_inserted xs (client_in [] c world))) (holds inserted_held) (holds (held_in s.key d base after)) (ap holds (insert-held goes))
             (meets_then s (doing (looks_then t (values_from 0 xs) (puts_row t xs ∷ later)) (client_in [] c world)) (doing (puts_row t xs ∷ later) (client_in [] c world)) (doing later (having_inserted xs (client_in [] c world))) (holds held) (holds (with_marks marks held)) (holds inserted_held)
             (walks_log s.key t (values_from 0 xs) (store_at stores t)) (exchanged (insert_request s t xs (client_in [] c world)) (reply.Count 1) ∷ []) walked goes.meets);
-        runs = going-runs goes;
+        runs = going-runs room goes;
       }
 
   -- by whether the plain table is full

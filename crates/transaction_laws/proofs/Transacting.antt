@@ -1,10 +1,12 @@
 -- A whole transaction: its begin, its statements one after the other, and its end.
-use Rattle.std.proofs.Common.{◌≡◌, ℕ, zero, suc, ◌+◌, ◌≤◌, ◌^◌, Bool, true, false, not, List, [], ◌∷◌, ◌++◌, map, length, Option, None, refl, ap, ap₂, ◌∙◌, sym, subst, arith, append_assoc, append-nil}
+use Rattle.std.proofs.Common.{◌≡◌, ℕ, zero, suc, ◌+◌, ◌<◌, ◌≤◌, ◌^◌, Bool, true, false, not, List, [], ◌∷◌, ◌++◌, map, length, Option, None, refl, ap, ap₂, ◌∙◌, sym, subst, arith, append_assoc, append-nil}
 use Rattle.mope_base.specs.Lists.{Each}
 use Rattle.mope_base.specs.declared.body.Body.{Body}
 use Rattle.mope_base.specs.declared.numbers.TableNo.{TableNo}
+use Rattle.mope_base.specs.declared.numbers.ColNo.{ColNo}
 use Rattle.table_model.specs.Stores.{Store, Shelf}
 use Rattle.table_model.specs.Operations.{ValueOp, ops_on, placed_ops}
+use Rattle.table_model.specs.Fitting.{AllFit}
 use Rattle.value_cipher.specs.Cipher.{Cell, value_of}
 use Rattle.versions.specs.Databases.{Database}
 use Rattle.versions.specs.declared.op.Op.{Op}
@@ -22,7 +24,7 @@ use Rattle.workload.specs.Outcome.{Outcome, full, answered, outcome_of}
 use Rattle.workload.specs.Transaction.{Work, Trial, going, stopped, table_named, started, with_op, is_op, after_outcome, after_act, after_acts, trial_of, work_of, ends, commits, wish_after}
 use Rattle.workload.specs.Validity.{IsValidAct, inserted_numbers}
 use Rattle.proxy.specs.Client.{Setting, Client, closed_by, ending}
-use Rattle.proxy.specs.Tasks.{Task, opens, closes, constants_of, acts_of, last_task, act_then, acts_then, tasks_of}
+use Rattle.proxy.specs.Tasks.{Task, opens, closes, rebuilds, constants_of, acts_of, last_task, act_then, acts_then, tasks_of}
 use Rattle.server_conn.specs.Connections.{Mark, Walk, Held, held_on, Conn, idle, begins, holds, wants_begin}
 use Rattle.server_conn.specs.Serving.{began}
 use Rattle.walk_proto.specs.declared.messages.How.TheVariants as how
@@ -32,11 +34,13 @@ use Rattle.transaction_laws.specs.Meetings.{Meets, doing}
 use Rattle.transaction_laws.specs.Walks.{exchanged}
 use Rattle.transaction_laws.specs.Constants.{store_at, Shows, walks_log}
 use Rattle.transaction_laws.specs.Queries.{AreDeclared}
-use Rattle.transaction_laws.specs.Ends.{MeetsTurn, begun_on, EndsAtOnce, HasOps}
-use Rattle.transaction_laws.specs.Transactions.{plain_database, Tried, tried_on, ops_of, tried_by, act_tried, unless_stopped, acts_tried, act_log, acts_log, client_in, kept_op, kept_ops, held_in, client_by, conn_by, CommitTurns, EndsAs, EndsBy, MayRun, TransactionGoes, TransactionMeets}
+use Rattle.transaction_laws.specs.Ends.{MeetsTurn, begun_on, EndsAtOnce, HasOps, HasColumnOf}
+use Rattle.transaction_laws.specs.Transactions.{plain_database, Tried, tried_on, ops_of, tried_by, act_tried, unless_stopped, acts_tried, act_log, acts_log, client_in, kept_op, kept_ops, held_in, client_by, conn_by, CommitTurns, EndsAs, EndsBy, MayRun, TransactionGoes, TransactionMeets, RebuildGoes, RebuildMeets}
 use Rattle.transaction_laws.proofs.Meeting.{meets_nothing, meets_then}
 use Rattle.transaction_laws.proofs.Walking.{along, ending_at}
-use Rattle.transaction_laws.proofs.Ending.{begin_meets, close_meets, commit_meets, conflict_meets}
+use Rattle.transaction_laws.proofs.Shown.{shown-table, shown-column}
+use Rattle.transaction_laws.proofs.Querying.{declared-tables, declared-columns}
+use Rattle.transaction_laws.proofs.Ending.{begin_meets, close_meets, commit_meets, conflict_meets, install_meets, stale_meets}
 use Rattle.transaction_laws.proofs.KeptOps.{held-same}
 use Rattle.transaction_laws.proofs.Stepping.{Runs, Setup, Stepped, at_work, insert_steps}
 use Rattle.transaction_laws.proofs.AskStepping.{ask_steps}
@@ -177,10 +181,11 @@ ends_by s rollback acts c d stores (going work) w counted touched = closes_as s 
 -- ---- its begin
 
 runs-first : (s : Setting) (tables : List Decl) (d : Database) (stores : List (Store Cell)) (seals : ℕ) → MayRun s tables d stores → Runs s tables d stores (tried_on stores seals)
-unfolding tried_on held_in held_on ops_on work_of started
+unfolding tried_on held_in held_on ops_on AllFit work_of started
 runs-first s tables d stores seals may = record {
   shows = record { stand = record { same = refl; sound = may.shows.stand.sound }; low = may.shows.low };
   declared = may.declared;
+  fit = tt;
   made = refl;
   copy = refl;
   counted = refl;
@@ -228,6 +233,25 @@ transaction_meets s tables acts rollback c d stores may valid none =
       ends_as = ends_by s rollback acts client d stores last.plain last acted.runs.counted (λ (work : Work) (is : last.plain ≡ going work). touched-first acts (plain_database stores) work (sym plain ∙ is));
       plain = plain;
       copy = acted.runs.copy;
+      fit = acted.runs.fit;
       made = acted.runs.made;
       shows = acted.runs.shows;
+    }
+
+-- ---- a REBUILD
+
+rebuild-starts : (s : Setting) (t : TableNo) (column : ColNo) (c : Client) (d : Database)
+    → MeetsTurn s (doing (tasks_of (piece.Rebuild t column)) c) idle request.Begin wants_begin begins (reply.Ended how.Began 0 d.number) (began d) (doing (rebuilds t column ∷ []) (begun_on d.number c)) (holds (held_on d))
+unfolding tasks_of acts_of last_task acts_then
+rebuild-starts s t column c d = begin_meets s (rebuilds t column ∷ []) c d
+
+pub rebuild_meets : RebuildMeets
+rebuild_meets s tables t column c d stores may valid =
+    let there : t.0 < length stores = omega (arith, valid.0, declared-tables tables stores may.declared) in
+    let in_table : column.0 < length (store_at stores t).columns = subst (λ (n : ℕ). column.0 < n) (declared-columns tables stores t may.declared there) valid.1 in
+    let has : HasColumnOf t column d = record { has_table = shown-table s.key stores (held_on d) t may.shows there; has_column = shown-column s.key stores (held_on d) t column may.shows in_table } in
+    record {
+      starts = rebuild-starts s t column c d;
+      installs = λ number. install_meets s t column [] (begun_on d.number c) d number has;
+      finds_stale = λ number. stale_meets s t column [] (begun_on d.number c) d number has;
     }

@@ -3,9 +3,11 @@ use Rattle.std.specs.Prelude.{◌≡◌, ℕ, ◌+◌, Bool, true, false, not, L
 use Rattle.mope_base.specs.Lists.{Each}
 use Rattle.mope_base.specs.declared.body.Body.{Body}
 use Rattle.mope_base.specs.declared.numbers.TableNo.{TableNo}
+use Rattle.mope_base.specs.declared.numbers.ColNo.{ColNo}
 use Rattle.table_model.specs.Stores.{Row, Store, map_shelf, shelf_of}
 use Rattle.table_model.specs.Soundness.{numbers_of}
 use Rattle.table_model.specs.Operations.{ValueOp, InsertCells, RankOp, InsertAt, DeleteAt, ops_on, placed_ops, map_rank_op}
+use Rattle.table_model.specs.Fitting.{AllFit}
 use Rattle.value_cipher.specs.Cipher.{Cell, value_of, sealed}
 use Rattle.versions.specs.Databases.{Database}
 use Rattle.versions.specs.declared.op.Op.{Op}
@@ -27,10 +29,10 @@ use Rattle.workload.specs.declared.script.Piece.TheVariants as piece
 use Rattle.workload.specs.PlainDatabase.{row_limit}
 use Rattle.workload.specs.Run.{names}
 use Rattle.workload.specs.Transaction.{Work, Trial, going, stopped, table_named, started, after_act, trial_of, work_of, Wish, ends, commits, wish_after}
-use Rattle.workload.specs.Validity.{IsValidDecl, IsValidAct, inserted_numbers}
+use Rattle.workload.specs.Validity.{IsValidDecl, IsValidAct, IsValidPiece, inserted_numbers}
 use Rattle.proxy.specs.Client.{Setting, Client, cells_from, ending}
-use Rattle.proxy.specs.Tasks.{Task, closes, constants_of, acts_then, tasks_of}
-use Rattle.server_conn.specs.Connections.{Held, held_on, commit, Conn, idle, begins, holds, awaits, wants_begin, wants_commit}
+use Rattle.proxy.specs.Tasks.{Task, closes, rebuilds, constants_of, acts_then, tasks_of}
+use Rattle.server_conn.specs.Connections.{Held, held_on, commit, install, Conn, idle, begins, holds, awaits, wants_begin, wants_commit, wants_install}
 use Rattle.server_conn.specs.Serving.{began, ended}
 use Rattle.transaction_laws.specs.Meetings.{Meets, doing}
 use Rattle.transaction_laws.specs.Walks.{exchanged}
@@ -171,16 +173,26 @@ pub record MayRun (s : Setting) (tables : List Decl) (d : Database) (stores : Li
   pub limit : d.limit ≡ row_limit
 
 -- a transaction from its begin to its end: what it does on plain tables are the trial of its statements; its own tables in clear are the
--- trial's copy, and its operations make them of the version's
+-- trial's copy; its operations fit the version's tables, and make them of those
 pub record TransactionGoes (s : Setting) (acts : List Act) (rollback : Bool) (c : Client) (d : Database) (stores : List (Store Cell)) (w : Tried) : Type 0 where
   pub starts : MeetsTurn s (doing (tasks_of (piece.Txn acts rollback)) c) idle request.Begin wants_begin begins (reply.Ended how.Began 0 d.number) (began d) (doing (acts_then acts (closes rollback acts ∷ [])) (begun_on d.number c)) (holds (held_on d))
   pub goes : Meets s (doing (acts_then acts (closes rollback acts ∷ [])) (begun_on d.number c)) (holds (held_on d)) (acts_log s d.same_time acts (tried_on stores c.seals)) (client_by s (closes rollback acts ∷ []) (begun_on d.number c) w.plain w) (conn_by s.key d stores w.plain w)
   pub ends_as : EndsBy s rollback acts (begun_on d.number c) d stores w.plain w
   pub plain : w.plain ≡ trial_of (plain_database stores) acts
   pub copy : plain_database w.stores ≡ (work_of w.plain).copy
+  pub fit : AllFit d.same_time value_of d.limit w.ops stores
   pub made : w.stores ≡ ops_on d.same_time value_of w.ops stores
   pub shows : Shows s.key w.stores (held_in s.key d stores w)
 
 abbrev pub TransactionMeets : Type 0
 TransactionMeets = (s : Setting) (tables : List Decl) (acts : List Act) (rollback : Bool) (c : Client) (d : Database) (stores : List (Store Cell)) → MayRun s tables d stores → Each (IsValidAct tables) acts → c.answers ≡ []
     → TransactionGoes s acts rollback c d stores (acts_tried s d.same_time acts (tried_on stores c.seals))
+
+-- a REBUILD from its begin to its end: its turn makes a version, or finds the table changed
+pub record RebuildGoes (s : Setting) (t : TableNo) (column : ColNo) (c : Client) (d : Database) : Type 0 where
+  pub starts : MeetsTurn s (doing (tasks_of (piece.Rebuild t column)) c) idle request.Begin wants_begin begins (reply.Ended how.Began 0 d.number) (began d) (doing (rebuilds t column ∷ []) (begun_on d.number c)) (holds (held_on d))
+  pub installs : (number : ℕ) → MeetsTurn s (doing (rebuilds t column ∷ []) (begun_on d.number c)) (holds (held_on d)) (request.Rebuild t column) (wants_install t column) (awaits (held_on d) (install t column)) (reply.Ended how.Installed 0 number) (ended how.Installed 0 number) (ending s (end.Installed number) (begun_on d.number c)) idle
+  pub finds_stale : (number : ℕ) → MeetsTurn s (doing (rebuilds t column ∷ []) (begun_on d.number c)) (holds (held_on d)) (request.Rebuild t column) (wants_install t column) (awaits (held_on d) (install t column)) (reply.Ended how.Stale t.0 number) (ended how.Stale t.0 number) (ending s (end.Stale t number) (begun_on d.number c)) idle
+
+abbrev pub RebuildMeets : Type 0
+RebuildMeets = (s : Setting) (tables : List Decl) (t : TableNo) (column : ColNo) (c : Client) (d : Database) (stores : List (Store Cell)) → MayRun s tables d stores → IsValidPiece tables (piece.Rebuild t column) → RebuildGoes s t column c d

@@ -4,7 +4,7 @@ ghost use Rattle.transaction_laws.specs.Ends.{BeginMeets, CloseMeets, CommitMeet
 ghost use Rattle.transaction_laws.specs.Inserts.{FullMeets, InsertMeets};
 ghost use Rattle.transaction_laws.specs.Queries.{QueryMeets};
 ghost use Rattle.transaction_laws.specs.Readable.{AllowedIsReadable, MessagesAreReadable};
-ghost use Rattle.transaction_laws.specs.Transactions.{TransactionMeets};
+ghost use Rattle.transaction_laws.specs.Transactions.{RebuildMeets, TransactionMeets};
 ghost use Rattle.transaction_laws.specs.Walks.{WalkMeets};
 
 /// A walk finds the place of its value.
@@ -67,6 +67,11 @@ pub fn stale_meets()
 /// the world's operations and tables with each cell sealed.
 pub fn transaction_meets()
     ensures { TransactionMeets }
+{}
+
+/// A REBUILD from its begin to its end.
+pub fn rebuild_meets()
+    ensures { RebuildMeets }
 {}
 
 /// Some bytes give every reply that a client allows.

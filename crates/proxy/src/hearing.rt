@@ -166,8 +166,7 @@ impl Dialogue {
             answers,
         })?;
         self.place += 1;
-        let next = opening_if(self.place < self.script.as_slice().len());
-        self.doing = next;
+        self.doing = opening_if(self.place < self.script.as_slice().len());
         self.act = 0;
         self.constant = 0;
         self.base = 0;

@@ -6,12 +6,14 @@ use Rattle.mope_base.specs.declared.numbers.TableNo.{TableNo}
 use Rattle.mope_base.specs.declared.numbers.ColNo.{ColNo}
 use Rattle.sql_text.specs.declared.Test.{Test}
 use Rattle.sql_text.specs.declared.Test.TheVariants as test
+use Rattle.tree_model.specs.declared.Place.TheVariants.{Gap}
 use Rattle.tree_model.specs.declared.Side.TheVariants.{Left, Right}
 use Rattle.tree_model.specs.Columns.{empty_column}
 use Rattle.table_model.specs.Stores.{Store, empty_store, map_shelf, shelf_of}
 use Rattle.value_cipher.specs.Cipher.{Cell, value_of, sealed}
 use Rattle.versions.specs.Databases.{Database}
 use Rattle.versions.specs.Operations.{rank_ops, with_ops}
+use Rattle.versions.specs.declared.op.Op.TheVariants as op
 use Rattle.walk_proto.specs.declared.messages.Asked.{Asked}
 use Rattle.walk_proto.specs.declared.messages.Exchange.{Exchange}
 use Rattle.walk_proto.specs.declared.messages.How.TheVariants as how
@@ -22,13 +24,13 @@ use Rattle.workload.specs.declared.script.Act.TheVariants as act
 use Rattle.workload.specs.declared.script.Answer.TheVariants as answer
 use Rattle.workload.specs.declared.script.Verb.{Verb}
 use Rattle.workload.specs.declared.script.Verb.TheVariants as verb
-use Rattle.workload.specs.Transaction.{stopped, started, work_of}
+use Rattle.workload.specs.Transaction.{work_of}
 use Rattle.proxy.specs.Client.{Setting}
-use Rattle.server_conn.specs.Connections.{held_on, idle, begins, holds, wants_begin, wants_commit}
+use Rattle.server_conn.specs.Connections.{held_on, holds, begins, wants_begin, wants_commit}
 use Rattle.server_conn.specs.Logs.{Answers, conn_after}
 use Rattle.server_conn.specs.Serving.{serve, began, step_to}
 use Rattle.transaction_laws.specs.Walks.{exchanged}
-use Rattle.transaction_laws.specs.Transactions.{Tried, plain_database, tried_on, acts_tried, acts_log, kept_ops}
+use Rattle.transaction_laws.specs.Transactions.{Tried, tried_on, acts_tried, acts_log, kept_ops, conn_by, plain_database}
 
 abbrev pub t : TableNo
 t = record { 0 = 0 }
@@ -61,10 +63,12 @@ empty_from next = record { rows = []; next = next; columns = empty_column Cell �
 abbrev pub version : List ℕ → Bool → List (Store Cell) → Database
 version key same_time stores = record { number = 0; same_time = same_time; limit = 65536; shelves = map (map_shelf (sealed key)) (map (shelf_of value_of) stores); stamps = [] }
 
--- statements have these exchanges in the world, and the connection gives their replies
+-- statements have these exchanges in the world; the connection gives their replies, and is afterwards as the world says: its tables, its
+-- operations and the tables that were touched
 pub record Exchanges (key : List ℕ) (same_time : Bool) (stores : List (Store Cell)) (acts : List Act) (log : List Exchange) : Type 0 where
   pub world : acts_log (first_session key) same_time acts (tried_on stores 0) ≡ log
   pub served : Answers (holds (held_on (version key same_time stores))) log
+  pub conn : (let w : Tried = acts_tried (first_session key) same_time acts (tried_on stores 0) in conn_after (holds (held_on (version key same_time stores))) log ≡ conn_by key (version key same_time stores) stores w.plain w)
 
 -- ---- a full table: the second INSERT finds no number left for its row; the transaction ends, and its last statement isn't sent
 
@@ -80,7 +84,6 @@ pub record MeetsFull (key : List ℕ) : Type 0 where
   pub exchanges : Exchanges key false (empty_from (2 ^ 63 - 1)) full_acts (full_log key)
   pub answers : (work_of (acts_tried (first_session key) false full_acts (tried_on (empty_from (2 ^ 63 - 1)) 0)).plain).answers ≡ answer.Inserted ∷ []
   pub sealed_both : (acts_tried (first_session key) false full_acts (tried_on (empty_from (2 ^ 63 - 1)) 0)).seals ≡ 2
-  pub ended : conn_after (holds (held_on (version key false (empty_from (2 ^ 63 - 1))))) (full_log key) ≡ idle
 
 -- ---- BETWEEN a greater and a smaller constant gives no row, the other way about both
 
@@ -105,6 +108,7 @@ pub record InvertedBetween (key : List ℕ) (same_time : Bool) : Type 0 where
   pub exchanges : Exchanges key same_time (empty_from 1) between_acts (between_log key)
   pub answers : (work_of (acts_tried (first_session key) same_time between_acts (tried_on (empty_from 1) 0)).plain).answers
       ≡ answer.Inserted ∷ answer.Inserted ∷ answer.Rows 1 [] ∷ answer.Rows 1 (1 ∷ 5 ∷ []) ∷ []
+  pub kept : kept_ops key same_time (acts_tried (first_session key) same_time between_acts (tried_on (empty_from 1) 0)).ops (empty_from 1) ≡ op.Insert t (Gap 0 ∷ []) (body key 0 1 ∷ []) ∷ op.Insert t (Gap 1 ∷ []) (body key 1 5 ∷ []) ∷ []
 
 -- ---- a walk for a value whose rows are deleted: in ordinary mode its item is still there, in same-time mode it has gone
 
@@ -131,6 +135,23 @@ gone_log key =
 pub record WalksOverDeleted (key : List ℕ) : Type 0 where
   pub ordinary : Exchanges key false (empty_from 1) deleted_acts (deleted_log key ++ stays_log key)
   pub same_time : Exchanges key true (empty_from 1) deleted_acts (deleted_log key ++ gone_log key)
+
+-- ---- a DELETE of two rows takes one after the other: the item of the third row is found, in both modes at the root
+
+abbrev pub two_acts : List Act
+two_acts = insert 1 ∷ insert 2 ∷ insert 3 ∷ ask verb.Delete (test.Between 1 2) ∷ ask verb.Count (test.Ge 3) ∷ []
+
+abbrev pub two_log : List ℕ → List Exchange
+two_log key =
+    exchanged (request.WalkStart t a) reply.Placed ∷ exchanged (request.Insert t (body key 0 1 ∷ [])) (reply.Count 1)
+    ∷ exchanged (request.WalkStart t a) (reply.Node (body key 0 1)) ∷ exchanged (request.Go Right) reply.Placed ∷ exchanged (request.Insert t (body key 1 2 ∷ [])) (reply.Count 1)
+    ∷ exchanged (request.WalkStart t a) (reply.Node (body key 0 1)) ∷ exchanged (request.Go Right) (reply.Node (body key 1 2)) ∷ exchanged (request.Go Right) reply.Placed ∷ exchanged (request.Insert t (body key 2 3 ∷ [])) (reply.Count 1)
+    ∷ exchanged (request.WalkStart t a) (reply.Node (body key 0 1)) ∷ exchanged request.Found reply.Placed
+    ∷ exchanged (request.WalkStart t a) (reply.Node (body key 0 1)) ∷ exchanged (request.Go Right) (reply.Node (body key 1 2)) ∷ exchanged request.Found reply.Placed ∷ exchanged (request.Query (asked 4 [] 5)) (reply.Count 2)
+    ∷ exchanged (request.WalkStart t a) (reply.Node (body key 2 3)) ∷ exchanged request.Found reply.Placed ∷ exchanged (request.Query (asked 1 [] 4)) (reply.Count 1) ∷ []
+
+abbrev pub DeletesTwo : List ℕ → Bool → Type 0
+DeletesTwo key same_time = Exchanges key same_time (empty_from 1) two_acts (two_log key)
 
 -- ---- the example of a view: 5 is put in, and a second transaction counts it between 1 and 9
 

@@ -1,6 +1,6 @@
 //! What client and connection exchange on worked examples, computed by the checker. Each function is empty: its contract is the example.
 ghost use Rattle.std.specs.Prelude.{ℕ, Bool, List};
-ghost use Rattle.transaction_laws.specs.Examples.{ExampleView, InvertedBetween, MeetsFull, WalksOverDeleted};
+ghost use Rattle.transaction_laws.specs.Examples.{ExampleView, DeletesTwo, InvertedBetween, MeetsFull, WalksOverDeleted};
 
 /// A transaction that meets a full table.
 pub fn full_table()
@@ -15,6 +15,11 @@ pub fn inverted_between()
 /// Walks in a column with deleted items, in both modes.
 pub fn walks_over_deleted()
     ensures { (key : List ℕ) → WalksOverDeleted key }
+{}
+
+/// A DELETE of two rows.
+pub fn deletes_two()
+    ensures { (key : List ℕ) (same_time : Bool) → DeletesTwo key same_time }
 {}
 
 /// The example of a view: a value is put in, and a second transaction counts it between two others. What the client sends in it,

@@ -60,4 +60,4 @@ deletes_two key true = record { world = refl; served = (refl, (refl, (refl, (ref
 
 pub example_view : (key : List ℕ) → ExampleView key
 unfolding inorder map_tree size height side_by gap_side turn_at past onward path rooted halved balanced one_if below holds placed place number new_item one_more map_item values change_at add_item one_less has_rows live_items live is_dead gone drop_item is_sparse swept may_stand climbed climb limit is_heavy counted nearest_heavy child with_child tree_at put_at sizes_along graft balanced_at scapegoat_way settled insert_tree by_side change_tree first_or without_first joined remove_tree empty_column items_of whole add taken_out shrunk pruned fewer drop_one lay apply apply_all map_column map_operation bodies tag tagged tagged_column blank origins through composed is_origin is_rank here_or_next carried bit spelled code_within code_of side_of steps item_code unless moved_codes added_codes dropped_codes sum_by_origins sum_of empty_store empty_shelf map_row map_store map_kept map_shelf ranks_by kept_of shelf_of operate follow kept_after operated then_steps all_steps adds drops only rank_in places_by map_steps here_or without of_row ranks_of cells_of kept_without rows_without with_kept insert_row shelf_without delete_row delete_rows delete_steps lay_column insert_cells delete_number delete_numbers lay_store op_on ops_on rank_op_on rank_ops_on install_on rank_install_on shelf_at steps_if op_steps ops_steps columns_in rows_in placed_op placed_ops map_op map_rank_op numbers_of kept_numbers cell_value column_values ranks_at readings_at column_at no_stamps new_table with_shelf with_stamps emptied spent_table bodies_of item_codes body_at code_at row_code cells_at entries_at index_at first_database stamps_at table_at rank_op rank_ops op_table written_at stamped with_ops laid_at with_install test_by ends_above ends_of bound_of as_test by_code passing passing_counts rows_found extreme_verb extreme_found held_on reason_or first_failing own lacks_table lacks_column lacks_one are_of fits_row is_full once_or_twice constants_of alone_if columns_named is_fresh checks refusal step_to placed_at come_to walk_started stepped_from stepped in_front_of_top found after_statement with_op inserted code_at_mark second_of without_second tests_of order_by verb_by ask_by rows_asked bodies_in reply_about without_numbers changed_by queried closed committed ended_by effect table_in refused served_unless served_idle serve began ended meets passes in_front insert_ordered ordered by_column in_order first_of chosen selected values_at first_value answer_about kept_unless without_row without_rows empty_table table_of with_table plain_is_full with_plain_row table_without value_at left_by plain_inserted asked outcome_of table_named is_op with_plain_op started after_outcome after_act work_of inserted_numbers value_of nonce_at constants_in constants_with column_numbered values_from constants_all constants_named verb_byte target_byte order_in direction_byte order_byte order_column_byte limit_in column_bytes test_byte cond_bytes asked_of cells_from Answers conn_after exchanged value_in onward_by walk_log store_at walks_log cell_at rows_about bodies_sealed reply_with query_request rows_out ops_about plain_row plain_table plain_database tried_on ops_of tried_by act_tried unless_stopped acts_tried request_of reply_of act_log acts_log kept_op kept_ops held_in conn_by
-example_view key = record { waits = refl; begins_first = refl; put = record { world = refl; served = (refl, (refl, tt)) }; commits_as = refl; begins_second = refl; counts = refl; served = (refl, (refl, (refl, (refl, (refl, (refl, tt)))))); answers = refl }
+example_view key = record { waits = refl; begins_first = refl; put = record { world = refl; served = (refl, (refl, tt)); conn = refl }; commits_as = refl; begins_second = refl; counts = refl; served = (refl, (refl, (refl, (refl, (refl, (refl, tt)))))); answers = refl }

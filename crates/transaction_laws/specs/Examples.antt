@@ -26,7 +26,7 @@ use Rattle.workload.specs.declared.script.Verb.{Verb}
 use Rattle.workload.specs.declared.script.Verb.TheVariants as verb
 use Rattle.workload.specs.Transaction.{work_of}
 use Rattle.proxy.specs.Client.{Setting}
-use Rattle.server_conn.specs.Connections.{held_on, holds, begins, wants_begin, wants_commit}
+use Rattle.server_conn.specs.Connections.{held_on, holds, begins, wants_begin, wants_commit, idle}
 use Rattle.server_conn.specs.Logs.{Answers, conn_after}
 use Rattle.server_conn.specs.Serving.{serve, began, step_to}
 use Rattle.transaction_laws.specs.Walks.{exchanged}

@@ -1,15 +1,13 @@
 -- A statement of a transaction that asks: the walks for its constants, the statement, and what both sides and the world are afterwards.
-use Rattle.std.proofs.Common.{◌≡◌, ℕ, zero, suc, ◌+◌, ◌<◌, ◌≤◌, ◌^◌, Bool, true, false, ltb, List, [], ◌∷◌, ◌++◌, map, length, Option, None, refl, ap, ap₂, ◌∙◌, sym, subst, arith, append-nil, length-append}
+use Rattle.std.proofs.Common.{◌≡◌, ℕ, ◌+◌, ◌<◌, Bool, List, [], ◌∷◌, ◌++◌, map, length, None, refl, ap, ap₂, ◌∙◌, sym, subst, arith, append-nil, length-append}
 use Rattle.std.proofs.lemmas.Bool.{lt-ltb}
 use Rattle.mope_base.specs.declared.numbers.TableNo.{TableNo}
-use Rattle.mope_base.specs.declared.numbers.ColNo.{ColNo}
 use Rattle.table_model.specs.Stores.{Row, Store}
-use Rattle.table_model.specs.Soundness.{numbers_of, Sound}
+use Rattle.table_model.specs.Soundness.{numbers_of}
 use Rattle.table_model.specs.Operations.{ValueOp, DeleteRows, ops_on, placed_op, placed_ops, map_rank_op}
 use Rattle.table_model.specs.Fitting.{AllFit}
 use Rattle.value_cipher.specs.Cipher.{Cell, value_of}
 use Rattle.versions.specs.Databases.{Database}
-use Rattle.versions.specs.declared.op.Op.{Op}
 use Rattle.walk_proto.specs.declared.messages.Exchange.{Exchange}
 use Rattle.workload.specs.declared.plain.PlainRow.{PlainRow}
 use Rattle.workload.specs.declared.plain.PlainTable.{PlainTable}
@@ -22,19 +20,19 @@ use Rattle.workload.specs.declared.script.Decl.{Decl}
 use Rattle.workload.specs.declared.script.Verb.{Verb}
 use Rattle.workload.specs.declared.script.Verb.TheVariants as verb
 use Rattle.workload.specs.Selection.{selected, answer_about}
-use Rattle.workload.specs.PlainDatabase.{row_limit, table_of}
-use Rattle.workload.specs.Outcome.{value_at, left_by, answered, asked, outcome_of}
-use Rattle.workload.specs.Transaction.{Work, Trial, going, table_named, is_op, with_op, after_outcome, after_act, work_of}
+use Rattle.workload.specs.PlainDatabase.{table_of}
+use Rattle.workload.specs.Outcome.{value_at, left_by, asked, outcome_of}
+use Rattle.workload.specs.Transaction.{Work, going, table_named, is_op, with_op, after_outcome, after_act, work_of}
 use Rattle.workload.specs.Validity.{IsValidAct, inserted_numbers}
 use Rattle.proxy.specs.Client.{Setting, Client}
 use Rattle.proxy.specs.Tasks.{Task, asks, constants_of, constants_all, does, looks_then, act_then}
-use Rattle.server_conn.specs.Connections.{Mark, Walk, Held, Conn, holds}
+use Rattle.server_conn.specs.Connections.{Mark, Held, Conn, holds}
 use Rattle.server_conn.specs.Serving.{after_statement, without_numbers, with_op as keeping_op}
 use Rattle.transaction_laws.specs.Meetings.{Meets, doing}
 use Rattle.transaction_laws.specs.Walks.{exchanged}
 use Rattle.transaction_laws.specs.Constants.{store_at, Shows, walks_log, marks_for, with_marks}
-use Rattle.transaction_laws.specs.Queries.{AreDeclared, cell_at, rows_about, reply_with, query_request, having_asked, rows_out, ops_about, done_about, with_asked, MayAsk, QueryGoes}
-use Rattle.transaction_laws.specs.Transactions.{plain_row, plain_table, plain_database, Tried, ops_of, tried_by, request_of, reply_of, client_in, kept_op, kept_ops, held_in, client_by, conn_by}
+use Rattle.transaction_laws.specs.Queries.{cell_at, rows_about, reply_with, query_request, having_asked, rows_out, ops_about, done_about, with_asked, MayAsk, QueryGoes}
+use Rattle.transaction_laws.specs.Transactions.{plain_row, plain_database, Tried, ops_of, tried_by, request_of, reply_of, client_in, kept_op, kept_ops, held_in, client_by, conn_by}
 use Rattle.transaction_laws.proofs.Meeting.{meets_then}
 use Rattle.transaction_laws.proofs.Walking.{ending_at}
 use Rattle.transaction_laws.proofs.Shown.{shown-sound}

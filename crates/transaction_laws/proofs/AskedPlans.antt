@@ -1,26 +1,23 @@
 -- A statement as it is sent, read by the connection with the codes of the places that were found: the statement with codes in its
 -- constants' stead; and that no check refuses it.
-use Rattle.std.proofs.Common.{◌≡◌, ℕ, suc, ◌+◌, ◌≤◌, ◌<◌, Bool, true, false, not, ◌&&◌, ◌||◌, ◌==◌, leb, List, [], ◌∷◌, ◌++◌, map, length, is_some, Option, Some, None, refl, ap, ap₂, ◌∙◌, sym, subst, arith}
-use Rattle.std.proofs.lemmas.Bool.{eq-eqb, lt-leb}
-use Rattle.mope_base.specs.Lists.{Each}
+use Rattle.std.proofs.Common.{◌≡◌, ℕ, Bool, true, false, ◌&&◌, ◌==◌, List, [], ◌∷◌, ◌++◌, map, Option, Some, None, refl, ap, ap₂, ◌∙◌, sym}
+use Rattle.std.proofs.lemmas.Bool.{eq-eqb}
 use Rattle.mope_base.specs.declared.body.Body.{Body}
 use Rattle.mope_base.specs.declared.numbers.TableNo.{TableNo}
 use Rattle.mope_base.specs.declared.numbers.ColNo.{ColNo}
 use Rattle.sql_text.specs.declared.Test.{Test}
 use Rattle.sql_text.specs.declared.Test.TheVariants as test
-use Rattle.tree_model.specs.declared.Place.{Place}
 use Rattle.tree_model.specs.Places.{place}
 use Rattle.tree_model.specs.Items.{values}
 use Rattle.tree_model.specs.Columns.{Column, items_of, map_column}
 use Rattle.path_code.specs.Laws.{code_in}
 use Rattle.table_model.specs.Stores.{Store, Shelf, map_shelf, shelf_of}
 use Rattle.table_model.specs.Soundness.{column_at}
-use Rattle.table_model.proofs.Lists.{map-map, map-nothing, map-same}
+use Rattle.table_model.proofs.Lists.{map-same}
 use Rattle.table_model.proofs.SoundMaps.{column_at-map}
 use Rattle.table_model.proofs.StoreMaps.{values-map_column}
 use Rattle.value_cipher.specs.Cipher.{Cell, value_of, sealed, unseal_of}
 use Rattle.value_cipher.proofs.CipherLemmas.{unseal_of-seal_of}
-use Rattle.walk_proto.specs.declared.messages.Asked.{Asked}
 use Rattle.workload.specs.declared.script.Ask.{Ask}
 use Rattle.workload.specs.declared.script.Verb.{Verb}
 use Rattle.workload.specs.declared.script.Verb.TheVariants as verb

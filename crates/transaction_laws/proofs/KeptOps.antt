@@ -1,10 +1,10 @@
 -- Operations of a world's transaction, one after the other; and what they leave as it is.
-use Rattle.std.proofs.Common.{◌≡◌, ℕ, zero, suc, ◌+◌, ◌<◌, ◌≤◌, Bool, List, [], ◌∷◌, ◌++◌, map, length, Option, None, refl, ap, ap₂, ◌∙◌, sym, subst, arith, append_assoc, append-nil}
+use Rattle.std.proofs.Common.{◌≡◌, ℕ, zero, suc, Bool, List, [], ◌∷◌, ◌++◌, map, length, Option, refl, ap, ◌∙◌}
 use Rattle.std.proofs.lemmas.List.{map-append}
 use Rattle.mope_base.specs.declared.body.Body.{Body}
 use Rattle.mope_base.specs.declared.numbers.TableNo.{TableNo}
 use Rattle.tree_model.specs.Items.{change_at}
-use Rattle.table_model.specs.Stores.{Row, Store, Shelf}
+use Rattle.table_model.specs.Stores.{Store, Shelf}
 use Rattle.table_model.specs.Steps.{adds, drops, places_by}
 use Rattle.table_model.specs.Stores.{ranks_by}
 use Rattle.table_model.specs.Changes.{insert_cells, delete_number, delete_numbers, cells_of}
@@ -14,9 +14,7 @@ use Rattle.table_model.proofs.Rows.{length-operate}
 use Rattle.value_cipher.specs.Cipher.{Cell, value_of, sealed}
 use Rattle.versions.specs.Databases.{Database}
 use Rattle.versions.specs.declared.op.Op.{Op}
-use Rattle.workload.specs.declared.script.Decl.{Decl}
 use Rattle.server_conn.specs.Connections.{Mark, Walk, Held}
-use Rattle.transaction_laws.specs.Queries.{AreDeclared}
 use Rattle.transaction_laws.specs.Transactions.{kept_op, kept_ops}
 
 -- ---- one after the other

@@ -15,4 +15,5 @@ pub mod Stepping
 pub mod AskStepping
 pub mod Transacting
 pub mod Reading
+pub mod StandingVersions
 pub mod Computed

@@ -1,5 +1,5 @@
 -- A world in clear: what a statement answers on it and leaves of it is what it does on plain tables.
-use Rattle.std.proofs.Common.{◌≡◌, ℕ, zero, suc, ◌+◌, ◌<◌, ◌≤◌, Bool, true, false, ◌==◌, eqb, List, [], ◌∷◌, ◌++◌, map, filter, length, get_or, set, refl, ap, ap₂, ◌∙◌, sym, subst, inl, inr, arith}
+use Rattle.std.proofs.Common.{◌≡◌, ℕ, zero, suc, ◌<◌, Bool, true, false, ◌==◌, eqb, List, [], ◌∷◌, ◌++◌, map, length, get_or, set, refl, ap, ap₂, ◌∙◌, sym, subst, inl, inr, arith}
 use Rattle.std.proofs.lemmas.Bool.{cases_Bool, ne_eqb, eqb-true}
 use Rattle.std.proofs.lemmas.List.{get_or-map, set-get_or, map-append}
 use Rattle.mope_base.specs.declared.numbers.TableNo.{TableNo}
@@ -9,7 +9,7 @@ use Rattle.tree_model.specs.Items.{change_at}
 use Rattle.table_model.specs.Stores.{Row, Store, empty_store}
 use Rattle.table_model.specs.Changes.{here_or, without, rows_without, insert_cells, delete_number, delete_numbers}
 use Rattle.table_model.specs.Soundness.{numbers_of, cell_value, Sound}
-use Rattle.table_model.specs.Operations.{ValueOp, InsertCells, DeleteRows, op_on, ops_on}
+use Rattle.table_model.specs.Operations.{op_on, ops_on}
 use Rattle.table_model.proofs.Lists.{map-map}
 use Rattle.table_model.proofs.Deleted.{rising-front, delete_takes_rows}
 use Rattle.table_model.proofs.Sound.{delete-sound}

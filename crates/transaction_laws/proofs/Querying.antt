@@ -1,5 +1,5 @@
 -- A statement that asks, once the places of its constants are found: the checks, the exchange, and that the tables still stand for the world's.
-use Rattle.std.proofs.Common.{◌≡◌, ℕ, ◌+◌, ◌<◌, ◌≤◌, ◌^◌, Bool, true, false, not, ◌&&◌, ◌||◌, ◌==◌, leb, cond, List, [], ◌∷◌, ◌++◌, map, filter, length, get_or, is_some, Option, Some, None, refl, ap, ap₂, ◌∙◌, sym, subst, arith}
+use Rattle.std.proofs.Common.{◌≡◌, ℕ, ◌<◌, ◌≤◌, ◌^◌, Bool, true, false, not, ◌&&◌, ◌||◌, ◌==◌, cond, List, [], ◌∷◌, ◌++◌, map, filter, length, get_or, is_some, Option, Some, None, refl, ap, ap₂, ◌∙◌, sym, subst, arith}
 use Rattle.std.proofs.lemmas.Bool.{eq-eqb, lt-leb, or_parts}
 use Rattle.std.proofs.lemmas.List.{length-map, get_or-map}
 use Rattle.std.specs.List.{All}
@@ -10,43 +10,37 @@ use Rattle.mope_base.specs.declared.numbers.TableNo.{TableNo}
 use Rattle.mope_base.specs.declared.numbers.ColNo.{ColNo}
 use Rattle.sql_text.specs.declared.Test.{Test}
 use Rattle.tree_model.specs.Places.{holds as is_among, IsBelowAll, IsIncreasing}
-use Rattle.tree_model.specs.Items.{change_at}
 use Rattle.table_model.specs.Stores.{Row, Store, Kept, Shelf, empty_store}
 use Rattle.table_model.specs.Changes.{delete_rows}
 use Rattle.table_model.specs.Soundness.{numbers_of, Sound}
-use Rattle.table_model.specs.Operations.{ValueOp, DeleteRows, op_on, ops_on, rank_op_on, rank_ops_on, placed_op, placed_ops, map_rank_op, rows_in}
+use Rattle.table_model.specs.Operations.{DeleteRows, op_on, ops_on, rank_op_on, rank_ops_on, placed_op, placed_ops, map_rank_op}
 use Rattle.table_model.specs.Fitting.{AllAmong, FitsDelete, AllFit, OpFits}
-use Rattle.table_model.specs.Standing.{AllStand}
 use Rattle.table_model.proofs.Ops.{same-all}
 use Rattle.table_model.proofs.SealedTables.{operations_stand}
 use Rattle.table_model.proofs.Deleted.{rising-front}
 use Rattle.table_model.proofs.Rows.{held-cons}
 use Rattle.versions.specs.declared.op.Op.TheVariants as op
 use Rattle.value_cipher.specs.Cipher.{Cell, value_of, sealed}
-use Rattle.walk_proto.specs.declared.messages.Asked.{Asked}
 use Rattle.walk_proto.specs.declared.messages.Reply.{Reply}
-use Rattle.walk_proto.specs.declared.messages.Request.{Request}
-use Rattle.walk_proto.specs.declared.messages.Request.TheVariants as request
-use Rattle.workload.specs.declared.script.Act.TheVariants as act
 use Rattle.workload.specs.declared.script.Answer.{Answer}
 use Rattle.workload.specs.declared.script.Ask.{Ask}
 use Rattle.workload.specs.declared.script.Decl.{Decl}
 use Rattle.workload.specs.declared.script.Verb.{Verb}
 use Rattle.workload.specs.declared.script.Verb.TheVariants as verb
 use Rattle.workload.specs.Selection.{passes, chosen, selected, answer_about}
-use Rattle.workload.specs.Validity.{column_count, IsColumn, IsValidTest, IsOrderColumn, IsValidVerb, IsValidAct}
+use Rattle.workload.specs.Validity.{column_count, IsColumn, IsValidTest, IsOrderColumn, IsValidVerb}
 use Rattle.proxy.specs.Allowed.{allowed, fits_first, fits_task, is_spelled, answers_with}
 use Rattle.proxy.specs.Client.{Setting, Client, wants, first_request, request_for, hears, heard_at, heard_by, with_answer, answering, answer_in}
 use Rattle.proxy.specs.Tasks.{Task, asks, verb_byte, target_byte, order_in, order_byte, order_column_byte, direction_byte, column_bytes, cond_bytes, asked_of}
 use Rattle.sql_plan.specs.Plans.{HasOrder}
 use Rattle.sql_plan.specs.Laws.{HasVerb, HasColumns}
-use Rattle.server_conn.specs.Connections.{Mark, Walk, Held, Conn, holds, Step}
-use Rattle.server_conn.specs.Checks.{own, are_of, constants_of, lacks_table, lacks_column, lacks_one, alone_if, columns_named, refusal, checks, first_failing, reason_or, walk_open, unknown_table, unknown_column, wrong_places}
+use Rattle.server_conn.specs.Connections.{Mark, Walk, Held, holds}
+use Rattle.server_conn.specs.Checks.{own, are_of, constants_of, lacks_column, lacks_one, alone_if, columns_named, refusal, checks, first_failing, reason_or, walk_open, unknown_table, unknown_column, wrong_places}
 use Rattle.server_conn.specs.Serving.{serve, served_unless, effect, queried, rows_asked, verb_by, reply_about, changed_by, after_statement, without_numbers, with_op, step_to}
-use Rattle.transaction_laws.specs.Meetings.{Meets, doing}
+use Rattle.transaction_laws.specs.Meetings.{doing}
 use Rattle.transaction_laws.specs.Constants.{store_at, Shows}
-use Rattle.transaction_laws.specs.Queries.{AreDeclared, cell_at, rows_about, reply_with, query_request, having_asked, rows_out, ops_about, done_about, with_asked, MayAsk, QueryGoes, QueryMeets}
-use Rattle.transaction_laws.proofs.Shown.{own-shown, shown-sound, shown-table, shown-columns}
+use Rattle.transaction_laws.specs.Queries.{AreDeclared, cell_at, rows_about, reply_with, query_request, having_asked, rows_out, ops_about, done_about, with_asked, MayAsk, QueryMeets}
+use Rattle.transaction_laws.proofs.Shown.{shown-sound, shown-table, shown-columns}
 use Rattle.transaction_laws.proofs.Inserting.{meets_once, rows-in}
 use Rattle.transaction_laws.proofs.AskedPlans.{verb-sent, tests-placed}
 use Rattle.transaction_laws.proofs.ReadingRows.{sealed_row, rows-asked}

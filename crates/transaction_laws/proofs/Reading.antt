@@ -1,5 +1,5 @@
 -- The messages of a transaction keep the rules of their fields.
-use Rattle.std.proofs.Common.{◌≡◌, ℕ, zero, suc, ◌+◌, ◌<◌, ◌≤◌, Bool, true, false, not, ◌&&◌, ◌||◌, ◌==◌, eqb, ltb, nat_lt, List, [], ◌∷◌, ◌++◌, map, length, get_or, is_some, Option, Some, None, refl, ap, ap₂, ◌∙◌, sym, subst, arith}
+use Rattle.std.proofs.Common.{◌≡◌, ℕ, zero, suc, ◌<◌, ◌≤◌, Bool, true, false, not, ◌&&◌, ◌==◌, eqb, ltb, nat_lt, List, [], ◌∷◌, ◌++◌, map, length, get_or, is_some, Option, Some, None, refl, ap, ap₂, ◌∙◌, arith}
 use Rattle.std.proofs.lemmas.Bool.{and_parts, le-ltb, ne_eqb, or_from}
 use Rattle.std.proofs.lemmas.List.{length-map}
 use Rattle.mope_base.specs.Lists.{Each}
@@ -13,7 +13,6 @@ use Rattle.tree_model.specs.declared.Side.TheVariants.{Left, Right}
 use Rattle.table_model.specs.Stores.{Store}
 use Rattle.table_model.specs.Soundness.{column_at}
 use Rattle.value_cipher.specs.Cipher.{Cell, sealed}
-use Rattle.versions.specs.Databases.{Database}
 use Rattle.walk_proto.specs.Rules.{IsRequest, IsReply, is_asked, are_ops, is_wrong_op, is_wrong_target, is_wrong_order, is_wrong_order_column, is_wrong_limited, is_wrong_query_width, is_wrong_width}
 use Rattle.walk_proto.specs.Spelling.{flag}
 use Rattle.walk_proto.specs.declared.messages.Exchange.{Exchange}
@@ -38,7 +37,7 @@ use Rattle.transaction_laws.specs.Ends.{begun_on}
 use Rattle.transaction_laws.specs.Walks.{exchanged, value_in, onward_by, walk_log}
 use Rattle.transaction_laws.specs.Constants.{store_at, walks_log}
 use Rattle.transaction_laws.specs.Queries.{query_request}
-use Rattle.transaction_laws.specs.Transactions.{Tried, tried_on, act_tried, unless_stopped, request_of, reply_of, act_log, acts_log, MayRun}
+use Rattle.transaction_laws.specs.Transactions.{Tried, tried_on, act_tried, unless_stopped, request_of, reply_of, act_log, acts_log}
 use Rattle.transaction_laws.specs.Readable.{IsReadable, AllowedIsReadable, MessagesAreReadable}
 use Rattle.transaction_laws.proofs.Statements.{few-columns, each-append}
 use Rattle.transaction_laws.proofs.Transacting.{transaction_meets}

@@ -1,18 +1,16 @@
 -- The rows that a connection selects by codes are those that a statement is about by value, with their cells sealed.
-use Rattle.std.proofs.Common.{◌≡◌, ℕ, ◌+◌, ◌^◌, ◌<◌, ◌≤◌, Bool, List, [], ◌∷◌, ◌++◌, map, length, filter, get_or, Option, Some, None, refl, ap, ◌∙◌, sym, arith, true}
+use Rattle.std.proofs.Common.{◌≡◌, ℕ, ◌^◌, ◌<◌, ◌≤◌, Bool, List, [], ◌∷◌, map, length, filter, get_or, refl, ap, ◌∙◌, sym, arith, true}
 use Rattle.std.proofs.lemmas.List.{length-map, get_or-map}
 use Rattle.std.specs.List.{All}
 use Rattle.std.proofs.lemmas.List.Elements.{All-filter}
 use Rattle.mope_base.specs.declared.body.Body.{Body}
-use Rattle.mope_base.specs.declared.numbers.TableNo.{TableNo}
 use Rattle.mope_base.specs.declared.numbers.ColNo.{ColNo}
-use Rattle.sql_text.specs.declared.Test.{Test}
 use Rattle.tree_model.specs.Places.{holds}
 use Rattle.tree_model.specs.Items.{values}
 use Rattle.tree_model.specs.Columns.{items_of}
 use Rattle.tree_model.proofs.Ordered.{holds-at}
 use Rattle.table_model.specs.Stores.{Row, Store, Kept, Shelf, map_kept, map_shelf, kept_of, shelf_of}
-use Rattle.table_model.specs.Soundness.{cell_value, column_at, ranks_at, readings_at, kept_numbers, Sound}
+use Rattle.table_model.specs.Soundness.{cell_value, column_at, ranks_at, readings_at, kept_numbers}
 use Rattle.table_model.specs.ShelfSoundness.{SoundShelf}
 use Rattle.table_model.specs.Standing.{Stands}
 use Rattle.table_model.proofs.Lists.{map-map, map-same}

@@ -1,7 +1,7 @@
 -- The reply about rows of a world: the connection gives it, the client allows it, and it opens to the plain answer.
 use Rattle.std.proofs.Common.{◌≡◌, ℕ, zero, suc, ◌+◌, ◌*◌, ◌%◌, ◌^◌, ◌<◌, ◌≤◌, Bool, true, false, not, ◌&&◌, ◌||◌, ◌==◌, eqb, leb, nat_lt, cond, List, [], ◌∷◌, ◌++◌, map, flat_map, filter, take, length, get_or, Option, Some, None, refl, ap, ap₂, ◌∙◌, sym, subst, arith, length-append}
 use Rattle.std.proofs.lemmas.Bool.{eq-eqb, ne_eqb, le-leb, lt-ltb, le-ltb, or_from}
-use Rattle.std.proofs.lemmas.List.{length-map, get_or-map, length-take}
+use Rattle.std.proofs.lemmas.List.{length-map, get_or-map}
 use Rattle.std.proofs.lemmas.List.Folds.{flat_map-map}
 use Rattle.std.proofs.Math.Nat.{add_comm, suc-mul, mul-mod_left, mul-le-mul_left}
 use Rattle.std.specs.List.{All}
@@ -10,16 +10,13 @@ use Rattle.mope_base.specs.Lists.{Each}
 use Rattle.mope_base.specs.declared.body.Body.{Body}
 use Rattle.mope_base.specs.declared.numbers.TableNo.{TableNo}
 use Rattle.mope_base.specs.declared.numbers.ColNo.{ColNo}
-use Rattle.sql_text.specs.declared.Test.{Test}
 use Rattle.table_model.specs.Stores.{Row, Store, Kept, map_kept, kept_of}
 use Rattle.table_model.specs.Soundness.{cell_value, numbers_of, kept_numbers, AllWide}
 use Rattle.table_model.proofs.Lists.{map-map}
 use Rattle.enc_table.specs.Rows.{no_body}
 use Rattle.value_cipher.specs.Cipher.{Cell, value_of, sealed, unseal_of}
 use Rattle.walk_proto.specs.Rules.{is_rows}
-use Rattle.walk_proto.specs.declared.messages.Reply.{Reply}
 use Rattle.walk_proto.specs.declared.messages.Reply.TheVariants as reply
-use Rattle.workload.specs.declared.script.Answer.{Answer}
 use Rattle.workload.specs.declared.script.Answer.TheVariants as answer
 use Rattle.workload.specs.declared.script.Ask.{Ask}
 use Rattle.workload.specs.declared.script.Verb.{Verb}

@@ -1,5 +1,5 @@
 -- The constants of a valid statement: how many they are, and that their columns are there.
-use Rattle.std.proofs.Common.{◌≡◌, ℕ, zero, suc, ◌+◌, ◌%◌, ◌<◌, ◌≤◌, Bool, true, List, [], ◌∷◌, ◌++◌, map, length, get_or, refl, ap, ◌∙◌, sym, subst, arith, length-append}
+use Rattle.std.proofs.Common.{◌≡◌, ℕ, zero, suc, ◌+◌, ◌%◌, ◌<◌, ◌≤◌, List, [], ◌∷◌, ◌++◌, map, length, get_or, refl, ap, subst, arith, length-append}
 use Rattle.std.proofs.Math.Nat.{mod-eq_of_lt}
 use Rattle.mope_base.specs.Lists.{Each}
 use Rattle.mope_base.specs.declared.numbers.TableNo.{TableNo}
@@ -7,7 +7,7 @@ use Rattle.mope_base.specs.declared.numbers.ColNo.{ColNo}
 use Rattle.sql_text.specs.declared.Test.{Test}
 use Rattle.sql_text.specs.declared.Test.TheVariants as test
 use Rattle.workload.specs.declared.script.Decl.{Decl}
-use Rattle.workload.specs.Validity.{IsValidDecl, column_count, IsColumn, IsValidTest}
+use Rattle.workload.specs.Validity.{IsValidDecl, column_count, IsValidTest}
 use Rattle.proxy.specs.Tasks.{constants_in, constants_with, constants_all, values_from, column_at}
 
 -- ---- a table has at most 8 columns

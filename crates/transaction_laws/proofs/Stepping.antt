@@ -1,62 +1,49 @@
 -- One statement of a transaction: the walks for its constants, the statement, and what both sides and the world are afterwards.
-use Rattle.std.proofs.Common.{◌≡◌, ℕ, zero, suc, ◌+◌, ◌<◌, ◌≤◌, ◌^◌, ◌⊎◌, Bool, true, false, ◌||◌, leb, ltb, List, [], ◌∷◌, ◌++◌, map, length, get_or, Option, Some, None, refl, ap, ap₂, ◌∙◌, sym, subst, inl, inr, arith, append-nil, length-append}
+use Rattle.std.proofs.Common.{◌≡◌, ℕ, ◌+◌, ◌<◌, ◌≤◌, ◌^◌, ◌⊎◌, Bool, true, false, ◌||◌, leb, List, [], ◌∷◌, ◌++◌, map, length, refl, ap, ◌∙◌, sym, subst, inl, inr, arith, length-append}
 use Rattle.std.proofs.lemmas.Bool.{cases_Bool, or_parts, leb-true, leb-false}
 use Rattle.std.proofs.lemmas.List.{length-map}
 use Rattle.mope_base.specs.Lists.{Each}
-use Rattle.mope_base.specs.declared.body.Body.{Body}
 use Rattle.mope_base.specs.declared.numbers.TableNo.{TableNo}
 use Rattle.mope_base.specs.declared.numbers.ColNo.{ColNo}
-use Rattle.table_model.specs.Stores.{Row, Store, Shelf, map_shelf, shelf_of}
-use Rattle.table_model.specs.Soundness.{numbers_of, Sound}
+use Rattle.table_model.specs.Stores.{Store}
 use Rattle.table_model.specs.Steps.{places_by}
 use Rattle.table_model.specs.Changes.{insert_cells}
-use Rattle.table_model.specs.Operations.{ValueOp, InsertCells, DeleteRows, op_on, ops_on, placed_op, placed_ops, map_rank_op, columns_in}
+use Rattle.table_model.specs.Operations.{ValueOp, InsertCells, op_on, ops_on, placed_op, placed_ops, map_rank_op, columns_in}
 use Rattle.table_model.specs.Fitting.{AllFit, OpFits}
-use Rattle.table_model.specs.Standing.{AllStand}
 use Rattle.tree_model.specs.Columns.{Column}
 use Rattle.value_cipher.specs.Cipher.{Cell, value_of, sealed}
 use Rattle.versions.specs.Databases.{Database}
-use Rattle.versions.specs.declared.op.Op.{Op}
 use Rattle.versions.specs.declared.op.Op.TheVariants as op
-use Rattle.walk_proto.specs.declared.messages.Exchange.{Exchange}
 use Rattle.walk_proto.specs.declared.messages.Reply.TheVariants as reply
-use Rattle.workload.specs.declared.plain.PlainRow.{PlainRow}
 use Rattle.workload.specs.declared.plain.PlainTable.{PlainTable}
 use Rattle.workload.specs.declared.plain.PlainDb.{PlainDb}
 use Rattle.workload.specs.declared.script.Act.{Act}
 use Rattle.workload.specs.declared.script.Act.TheVariants as act
-use Rattle.workload.specs.declared.script.Answer.{Answer}
 use Rattle.workload.specs.declared.script.Answer.TheVariants as answer
-use Rattle.workload.specs.declared.script.Ask.{Ask}
 use Rattle.workload.specs.declared.script.Decl.{Decl}
 use Rattle.workload.specs.declared.script.End.TheVariants as end
-use Rattle.workload.specs.declared.script.Verb.{Verb}
-use Rattle.workload.specs.declared.script.Verb.TheVariants as verb
-use Rattle.workload.specs.Selection.{selected, answer_about}
 use Rattle.workload.specs.PlainDatabase.{row_limit, table_of, with_table, is_full, with_row as with_plain_row}
-use Rattle.workload.specs.Outcome.{value_at, left_by, Outcome, answered, inserted, asked, outcome_of}
+use Rattle.workload.specs.Outcome.{inserted, outcome_of}
 use Rattle.workload.specs.Transaction.{Work, Trial, going, stopped, table_named, is_op, with_op, after_outcome, after_act, work_of}
-use Rattle.workload.specs.Validity.{IsValidDecl, IsValidAct, column_count, inserted_numbers}
+use Rattle.workload.specs.Validity.{IsValidDecl, IsValidAct, inserted_numbers}
 use Rattle.proxy.specs.Client.{Setting, Client, cells_from, sealing, ending}
-use Rattle.proxy.specs.Tasks.{Task, puts_row, asks, constants_of, constants_all, values_from, does, looks_then, act_then}
-use Rattle.server_conn.specs.Connections.{Mark, Walk, Held, Conn, idle, holds}
-use Rattle.server_conn.specs.Checks.{most_marks}
-use Rattle.server_conn.specs.Serving.{after_statement, without_numbers, with_op as keeping_op}
+use Rattle.proxy.specs.Tasks.{Task, puts_row, constants_of, values_from, does, looks_then, act_then}
+use Rattle.server_conn.specs.Connections.{Mark, Held, idle, holds}
+use Rattle.server_conn.specs.Serving.{after_statement, with_op as keeping_op}
 use Rattle.transaction_laws.specs.Meetings.{Meets, doing}
 use Rattle.transaction_laws.specs.Walks.{exchanged}
 use Rattle.transaction_laws.specs.Constants.{store_at, Shows, walks_log, marks_for, with_marks}
 use Rattle.transaction_laws.specs.Inserts.{cells_of_row, insert_request, having_inserted, with_row, MayInsert, InsertGoes}
-use Rattle.transaction_laws.specs.Queries.{AreDeclared, cell_at, rows_about, reply_with, query_request, having_asked, rows_out, ops_about, done_about, with_asked, MayAsk, QueryGoes}
-use Rattle.transaction_laws.specs.Transactions.{plain_row, plain_table, plain_database, Tried, ops_of, tried_by, act_tried, request_of, reply_of, act_log, client_in, kept_op, kept_ops, held_in, client_by, conn_by}
+use Rattle.transaction_laws.specs.Queries.{AreDeclared}
+use Rattle.transaction_laws.specs.Transactions.{plain_row, plain_table, plain_database, Tried, ops_of, tried_by, request_of, reply_of, client_in, kept_op, kept_ops, held_in, client_by, conn_by}
 use Rattle.transaction_laws.proofs.Meeting.{meets_then}
 use Rattle.transaction_laws.proofs.Walking.{ending_at}
-use Rattle.transaction_laws.proofs.Shown.{shown-sound}
 use Rattle.transaction_laws.proofs.FindingConstants.{constants_meet}
 use Rattle.transaction_laws.proofs.Inserting.{columns-in, insert-fits, insert_meets, full_meets}
-use Rattle.transaction_laws.proofs.Querying.{declared-tables, declared-columns, query_meets}
-use Rattle.transaction_laws.proofs.PlainTables.{plain-at, plain-with, plain-inserted, plain-about, plain-answer, plain-left}
+use Rattle.transaction_laws.proofs.Querying.{declared-tables, declared-columns}
+use Rattle.transaction_laws.proofs.PlainTables.{plain-at, plain-with, plain-inserted}
 use Rattle.transaction_laws.proofs.KeptOps.{ops_on-append, kept-append, fit-append, held-same, ops-widths}
-use Rattle.transaction_laws.proofs.Statements.{few-columns, Within, values-within, values-many, few-constants, constants-within}
+use Rattle.transaction_laws.proofs.Statements.{few-columns, Within, values-within, values-many}
 
 -- what stays true from statement to statement
 pub record Runs (s : Setting) (tables : List Decl) (d : Database) (base : List (Store Cell)) (w : Tried) : Type 0 where

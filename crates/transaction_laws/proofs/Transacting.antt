@@ -1,5 +1,5 @@
 -- A whole transaction: its begin, its statements one after the other, and its end.
-use Rattle.std.proofs.Common.{◌≡◌, ℕ, zero, suc, ◌+◌, ◌<◌, ◌≤◌, ◌^◌, Bool, true, false, not, List, [], ◌∷◌, ◌++◌, map, length, Option, None, refl, ap, ap₂, ◌∙◌, sym, subst, arith, append_assoc, append-nil}
+use Rattle.std.proofs.Common.{◌≡◌, ℕ, suc, ◌+◌, ◌<◌, Bool, true, false, List, [], ◌∷◌, ◌++◌, map, length, None, refl, ap, ◌∙◌, sym, subst, arith, append_assoc, append-nil}
 use Rattle.mope_base.specs.Lists.{Each}
 use Rattle.mope_base.specs.declared.body.Body.{Body}
 use Rattle.mope_base.specs.declared.numbers.TableNo.{TableNo}
@@ -9,39 +9,33 @@ use Rattle.table_model.specs.Operations.{ValueOp, ops_on, placed_ops}
 use Rattle.table_model.specs.Fitting.{AllFit}
 use Rattle.value_cipher.specs.Cipher.{Cell, value_of}
 use Rattle.versions.specs.Databases.{Database}
-use Rattle.versions.specs.declared.op.Op.{Op}
 use Rattle.walk_proto.specs.declared.messages.Exchange.{Exchange}
 use Rattle.workload.specs.declared.plain.PlainDb.{PlainDb}
 use Rattle.workload.specs.declared.script.Act.{Act}
 use Rattle.workload.specs.declared.script.Act.TheVariants as act
-use Rattle.workload.specs.declared.script.Ask.{Ask}
 use Rattle.workload.specs.declared.script.Answer.{Answer}
 use Rattle.workload.specs.declared.script.Decl.{Decl}
-use Rattle.workload.specs.declared.script.End.TheVariants as end
 use Rattle.workload.specs.declared.script.Piece.TheVariants as piece
 use Rattle.workload.specs.Run.{names}
 use Rattle.workload.specs.Outcome.{Outcome, full, answered, outcome_of}
-use Rattle.workload.specs.Transaction.{Work, Trial, going, stopped, table_named, started, with_op, is_op, after_outcome, after_act, after_acts, trial_of, work_of, ends, commits, wish_after}
+use Rattle.workload.specs.Transaction.{Work, Trial, going, stopped, table_named, started, with_op, is_op, after_outcome, after_act, after_acts, trial_of, work_of, wish_after}
 use Rattle.workload.specs.Validity.{IsValidAct, inserted_numbers}
-use Rattle.proxy.specs.Client.{Setting, Client, closed_by, ending}
-use Rattle.proxy.specs.Tasks.{Task, opens, closes, rebuilds, constants_of, acts_of, last_task, act_then, acts_then, tasks_of}
-use Rattle.server_conn.specs.Connections.{Mark, Walk, Held, held_on, Conn, idle, begins, holds, wants_begin}
+use Rattle.proxy.specs.Client.{Setting, Client, closed_by}
+use Rattle.proxy.specs.Tasks.{Task, closes, rebuilds, acts_of, last_task, act_then, acts_then, tasks_of}
+use Rattle.server_conn.specs.Connections.{held_on, Conn, idle, begins, holds, wants_begin}
 use Rattle.server_conn.specs.Serving.{began}
 use Rattle.walk_proto.specs.declared.messages.How.TheVariants as how
 use Rattle.walk_proto.specs.declared.messages.Reply.TheVariants as reply
 use Rattle.walk_proto.specs.declared.messages.Request.TheVariants as request
 use Rattle.transaction_laws.specs.Meetings.{Meets, doing}
-use Rattle.transaction_laws.specs.Walks.{exchanged}
-use Rattle.transaction_laws.specs.Constants.{store_at, Shows, walks_log}
-use Rattle.transaction_laws.specs.Queries.{AreDeclared}
+use Rattle.transaction_laws.specs.Constants.{store_at}
 use Rattle.transaction_laws.specs.Ends.{MeetsTurn, begun_on, EndsAtOnce, HasOps, HasColumnOf}
-use Rattle.transaction_laws.specs.Transactions.{plain_database, Tried, tried_on, ops_of, tried_by, act_tried, unless_stopped, acts_tried, act_log, acts_log, client_in, kept_op, kept_ops, held_in, client_by, conn_by, CommitTurns, EndsAs, EndsBy, MayRun, TransactionGoes, TransactionMeets, RebuildGoes, RebuildMeets}
+use Rattle.transaction_laws.specs.Transactions.{plain_database, Tried, tried_on, ops_of, tried_by, act_tried, unless_stopped, acts_tried, act_log, acts_log, client_in, kept_ops, held_in, client_by, conn_by, EndsAs, EndsBy, MayRun, TransactionMeets, RebuildMeets}
 use Rattle.transaction_laws.proofs.Meeting.{meets_nothing, meets_then}
-use Rattle.transaction_laws.proofs.Walking.{along, ending_at}
+use Rattle.transaction_laws.proofs.Walking.{along}
 use Rattle.transaction_laws.proofs.Shown.{shown-table, shown-column}
 use Rattle.transaction_laws.proofs.Querying.{declared-tables, declared-columns}
 use Rattle.transaction_laws.proofs.Ending.{begin_meets, close_meets, commit_meets, conflict_meets, install_meets, stale_meets}
-use Rattle.transaction_laws.proofs.KeptOps.{held-same}
 use Rattle.transaction_laws.proofs.Stepping.{Runs, Setup, Stepped, at_work, insert_steps}
 use Rattle.transaction_laws.proofs.AskStepping.{ask_steps}
 

@@ -9,7 +9,7 @@ use Rattle.sql_text.specs.declared.Test.TheVariants as test
 use Rattle.tree_model.specs.declared.Place.TheVariants.{Gap}
 use Rattle.tree_model.specs.declared.Side.TheVariants.{Left, Right}
 use Rattle.tree_model.specs.Columns.{empty_column}
-use Rattle.table_model.specs.Stores.{Store, empty_store, map_shelf, shelf_of}
+use Rattle.table_model.specs.Stores.{Store, map_shelf, shelf_of}
 use Rattle.value_cipher.specs.Cipher.{Cell, value_of, sealed}
 use Rattle.versions.specs.Databases.{Database}
 use Rattle.versions.specs.Operations.{rank_ops, with_ops}

@@ -7,4 +7,5 @@ pub mod Ends
 pub mod Queries
 pub mod Transactions
 pub mod Readable
+pub mod Standing
 pub mod Examples

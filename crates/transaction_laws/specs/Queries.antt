@@ -13,7 +13,6 @@ use Rattle.walk_proto.specs.declared.messages.Reply.TheVariants as reply
 use Rattle.walk_proto.specs.declared.messages.Request.{Request}
 use Rattle.walk_proto.specs.declared.messages.Request.TheVariants as request
 use Rattle.workload.specs.declared.script.Act.TheVariants as act
-use Rattle.workload.specs.declared.script.Answer.{Answer}
 use Rattle.workload.specs.declared.script.Ask.{Ask}
 use Rattle.workload.specs.declared.script.Decl.{Decl}
 use Rattle.workload.specs.declared.script.Verb.{Verb}

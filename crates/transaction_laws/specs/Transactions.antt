@@ -1,5 +1,5 @@
 -- A whole transaction in a world, and what client and connection do in it together.
-use Rattle.std.specs.Prelude.{◌≡◌, ℕ, ◌+◌, Bool, true, false, not, List, [], ◌∷◌, ◌++◌, map, length, None}
+use Rattle.std.specs.Prelude.{◌≡◌, ℕ, ◌+◌, Bool, true, false, not, List, [], ◌∷◌, ◌++◌, map, None}
 use Rattle.mope_base.specs.Lists.{Each}
 use Rattle.mope_base.specs.declared.body.Body.{Body}
 use Rattle.mope_base.specs.declared.numbers.TableNo.{TableNo}
@@ -28,7 +28,7 @@ use Rattle.workload.specs.declared.script.End.TheVariants as end
 use Rattle.workload.specs.declared.script.Piece.TheVariants as piece
 use Rattle.workload.specs.PlainDatabase.{row_limit}
 use Rattle.workload.specs.Run.{names}
-use Rattle.workload.specs.Transaction.{Work, Trial, going, stopped, table_named, started, after_act, trial_of, work_of, Wish, ends, commits, wish_after}
+use Rattle.workload.specs.Transaction.{Trial, going, stopped, table_named, started, after_act, trial_of, work_of, Wish, ends, commits, wish_after}
 use Rattle.workload.specs.Validity.{IsValidDecl, IsValidAct, IsValidPiece, inserted_numbers}
 use Rattle.proxy.specs.Client.{Setting, Client, cells_from, ending}
 use Rattle.proxy.specs.Tasks.{Task, closes, rebuilds, constants_of, acts_then, tasks_of}

@@ -4,6 +4,7 @@ ghost use Rattle.transaction_laws.specs.Ends.{BeginMeets, CloseMeets, CommitMeet
 ghost use Rattle.transaction_laws.specs.Inserts.{FullMeets, InsertMeets};
 ghost use Rattle.transaction_laws.specs.Queries.{QueryMeets};
 ghost use Rattle.transaction_laws.specs.Readable.{AllowedIsReadable, MessagesAreReadable};
+ghost use Rattle.transaction_laws.specs.Standing.{StandingRuns};
 ghost use Rattle.transaction_laws.specs.Transactions.{RebuildMeets, TransactionMeets};
 ghost use Rattle.transaction_laws.specs.Walks.{WalkMeets};
 
@@ -61,6 +62,11 @@ pub fn install_meets()
 /// A REBUILD that finds its table changed.
 pub fn stale_meets()
     ensures { StaleMeets }
+{}
+
+/// A transaction may begin on a version that stands for a world.
+pub fn standing_runs()
+    ensures { StandingRuns }
 {}
 
 /// A transaction from its begin to its end: client and connection meet, the answers are those on plain tables, and the connection keeps

@@ -7,3 +7,4 @@ pub mod Stepped
 pub mod Clashing
 pub mod Found
 pub mod Taken
+pub mod Pasts

@@ -11,3 +11,6 @@ mod state;
 pub use outcome::{Committed, Installed};
 pub use state::State;
 pub use versions::{Ending, Snapshot, Turn, TurnKind};
+
+#[cfg(test)]
+mod tests;

@@ -1,4 +1,5 @@
 pub mod Meeting
+pub mod OneLog
 pub mod Walking
 pub mod Shown
 pub mod FindingConstants

@@ -1,5 +1,5 @@
 -- A client and a connection that exchange messages between two turns. The definition is our own.
-use Rattle.std.specs.Prelude.{◌≡◌, List, None}
+use Rattle.std.specs.Prelude.{◌≡◌, List, length, None}
 use Rattle.walk_proto.specs.declared.messages.Exchange.{Exchange}
 use Rattle.proxy.specs.Client.{Setting, Client}
 use Rattle.proxy.specs.Tasks.{Task}
@@ -19,3 +19,7 @@ pub record Meets (s : Setting) (c : Client) (k : Conn) (log : List Exchange) (cl
 -- the client with these tasks, and no walk begun
 unfoldable pub doing : List Task → Client → Client
 doing tasks c = record c { tasks = tasks; looking = None }
+
+-- neither side has a choice: two logs of one length between the same client and connection are one
+abbrev pub LogsAreOne : Type 0
+LogsAreOne = (s : Setting) (c : Client) (k : Conn) (one other : List Exchange) → Talk s c one → Answers k one → Talk s c other → Answers k other → length one ≡ length other → one ≡ other

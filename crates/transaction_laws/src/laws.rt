@@ -2,11 +2,18 @@
 ghost use Rattle.transaction_laws.specs.Constants.{ConstantsMeet};
 ghost use Rattle.transaction_laws.specs.Ends.{BeginMeets, CloseMeets, CommitMeets, ConflictMeets, InstallMeets, StaleMeets};
 ghost use Rattle.transaction_laws.specs.Inserts.{FullMeets, InsertMeets};
+ghost use Rattle.transaction_laws.specs.Meetings.{LogsAreOne};
 ghost use Rattle.transaction_laws.specs.Queries.{QueryMeets};
 ghost use Rattle.transaction_laws.specs.Readable.{AllowedIsReadable, MessagesAreReadable};
 ghost use Rattle.transaction_laws.specs.Standing.{StandingRuns};
 ghost use Rattle.transaction_laws.specs.Transactions.{RebuildMeets, TransactionMeets};
 ghost use Rattle.transaction_laws.specs.Walks.{WalkMeets};
+
+/// What client and connection say to each other leaves no choice: where both keep to their definitions, the messages are those of
+/// the laws below.
+pub fn logs_are_one()
+    ensures { LogsAreOne }
+{}
 
 /// A walk finds the place of its value.
 pub fn walk_meets()

@@ -18,3 +18,4 @@ pub mod TableSeen
 pub mod TableOpen
 pub mod TableDeleting
 pub mod TableLooks
+pub mod TableTests

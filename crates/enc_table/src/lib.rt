@@ -23,3 +23,6 @@ pub use cell::Cell;
 pub use stamps::Stamps;
 pub use stop::TableStop;
 pub use table::Table;
+
+#[cfg(test)]
+mod tests;

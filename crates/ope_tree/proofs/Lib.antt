@@ -7,6 +7,7 @@ pub mod Sweeps
 pub mod RowDrops
 pub mod LowerRows
 pub mod Stopping
+pub mod Advancing
 pub mod CodeLists
 pub mod WalkedPlaces
 pub mod LinkCases

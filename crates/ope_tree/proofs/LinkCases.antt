@@ -20,7 +20,7 @@ pub node_of_link : (nodes : List Node) (link : Option ℕ) (at : ℕ) → IsLink
 node_of_link nodes link at is e = in_range nodes at (subst (IsLink nodes) e is)
 
 -- a link to a node names a tree with items
-node_named : (nodes : List Node) (at : ℕ) → at < length nodes → 0 < size (tree_of nodes (Some at))
+pub node_named : (nodes : List Node) (at : ℕ) → at < length nodes → 0 < size (tree_of nodes (Some at))
 unfolding size IsLink
 node_named [] at h = absurd (omega arith)
 node_named (n ∷ older) at h =

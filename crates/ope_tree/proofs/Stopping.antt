@@ -16,7 +16,7 @@ use Rattle.ope_tree.specs.Standing.{root_item, StandsAt, IsStopOf}
 use Rattle.ope_tree.proofs.Links.{tree_by-newest, tree_by-older}
 use Rattle.ope_tree.proofs.Builders.{tree_by-none}
 
-tree_at-leaf : {A : Type 0} (way : List Side) → tree_at {A = A} way leaf ≡ leaf
+pub tree_at-leaf : {A : Type 0} (way : List Side) → tree_at {A = A} way leaf ≡ leaf
 unfolding tree_at child
 tree_at-leaf [] = refl
 tree_at-leaf (side ∷ way) = tree_at-leaf way

@@ -4,6 +4,7 @@ pub mod Listed
 pub mod Seen
 pub mod SweptSum
 pub mod Standing
+pub mod Cursors
 pub mod Conditions
 pub mod Walked
 pub mod Settling

@@ -7,6 +7,7 @@ mod building;
 mod change;
 mod coding;
 mod copying;
+mod cursors;
 mod done;
 mod dropping;
 mod grafting;
@@ -25,6 +26,7 @@ mod tree;
 mod ways;
 
 pub use change::Change;
+pub use cursors::{Arrival, Cursor};
 pub use path_code::Recode;
 pub use stops::{At, Stop};
 pub use tree::Tree;

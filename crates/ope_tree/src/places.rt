@@ -17,9 +17,9 @@ use tree_model::{Place, Side};
 
 /// Where a walk down has come: the link to the tree there, and how many items stand left of that tree.
 #[derive(Clone, Copy)]
-struct Spot {
-    link: Option<u32>,
-    before: u32,
+pub struct Spot {
+    pub link: Option<u32>,
+    pub before: u32,
 }
 
 /// The step that the lowest bit of a number spells.
@@ -34,7 +34,7 @@ fn lowest_step(bits: u64) -> Side
 }
 
 /// One step further, from a node that has so many items left of its tree.
-fn onward(nodes: &Arena, at: u32, before: u32, side: Side) -> Spot
+pub fn onward(nodes: &Arena, at: u32, before: u32, side: Side) -> Spot
     requires is_node { at < length nodes.now }
     requires few { before + size (tree_of nodes.now (Some at)) < 2 ^ 32 }
     ensures { IsSpotBeside nodes.now at before side result.link result.before }

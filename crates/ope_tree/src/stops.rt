@@ -23,7 +23,8 @@ pub enum Stop {
     Gap,
 }
 
-fn stop_of(nodes: &Arena, link: Option<u32>) -> Stop
+/// What stands at the tree of a link.
+pub fn stop_of(nodes: &Arena, link: Option<u32>) -> Stop
     requires { IsLink nodes.now link }
     ensures { IsStopOf nodes.now link result }
 {

@@ -27,6 +27,7 @@ returns-in-Left c =
       is_node = omega (arith, many);
       is_link = is.left;
       names = rw (is.tree, c.in-Left.is) refl;
+      called = rw (is.names, c.in-Left.is) refl;
       count_is = rw (is.tree, c.in-Left.is) (omega arith);
     }
 
@@ -39,5 +40,6 @@ returns-in-Right c =
       is_node = omega (arith, many);
       is_link = is.right;
       names = rw (is.tree, c.in-Right.is) refl;
+      called = rw (is.names, c.in-Right.is) refl;
       count_is = rw (is.tree, c.in-Right.is) (omega (arith, c.size_of.ensures));
     }

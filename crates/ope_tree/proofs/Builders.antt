@@ -2,9 +2,9 @@
 use Rattle.std.proofs.Common.{◌≡◌, ℕ, suc, ◌+◌, ◌/◌, ◌<◌, List, [], ◌∷◌, ◌++◌, length, take, drop, get_or, map, Option, Some, None, refl, ap, ap₂, ◌∙◌, sym, subst, arith, append_assoc}
 use Rattle.std.proofs.lemmas.List.{take-map, drop-map, length-map, map-append}
 use Rattle.std.proofs.Math.ListN.{get_or-map}
-use Rattle.tree_model.specs.Trees.{Tree, leaf, node, inorder, balanced}
+use Rattle.tree_model.specs.Trees.{Tree, leaf, node, inorder, balanced, size}
 use Rattle.tree_model.specs.Items.{Item}
-use Rattle.tree_model.proofs.Halves.{balanced-at_half, balanced-nil}
+use Rattle.tree_model.proofs.Halves.{balanced-at_half, balanced-nil, size-balanced}
 use Rattle.mope_base.specs.declared.body.Body.{Body}
 use Rattle.ope_tree.specs.declared.nodes.Entry.{Entry}
 use Rattle.ope_tree.specs.declared.nodes.Node.{Node}
@@ -77,6 +77,10 @@ balanced_entries entries front back half middle d h e ef eb em =
     ap₂ (λ (l r : List (Item Body)). node (balanced l) (item_of middle) (balanced r)) left right
     ∙ ap (λ (x : Item Body). node (balanced (take (length items / 2) items)) x (balanced (drop (suc (length items / 2)) items))) here
     ∙ sym (balanced-at_half items (item_of d) (omega arith))
+
+pub size-entries : (entries : List Entry) → size (balanced (items_of_entries entries)) ≡ length entries
+unfolding items_of_entries
+size-entries entries = size-balanced (map item_of entries) ∙ length-map entries item_of
 
 pub balanced_no_entries : (entries : List Entry) → length entries ≡ 0 → balanced (items_of_entries entries) ≡ leaf
 unfolding items_of_entries

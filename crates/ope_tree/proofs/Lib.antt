@@ -1,6 +1,7 @@
 pub mod Reaching
 pub mod Links
 pub mod Builders
+pub mod Fitting
 pub mod Sound
 pub mod RowLists
 pub mod Sweeps

@@ -74,6 +74,7 @@ lifted n older at m h is =
       tree = old_here ∙ is.tree ∙ ap₂ (λ (l r : Tree (Item Body)). node l (item_of m.entry) r) (sym old_left) (sym old_right);
       names = name_here ∙ is.names ∙ ap₂ (λ (l r : Tree ℕ). node l at r) (sym name_left) (sym name_right);
       size_is = is.size_is ∙ ap size (sym old_here);
+      before_is = is.before_is ∙ ap size (sym old_left);
     }
 
 older_link : (nodes : List Node) (at : ℕ) (link : Option ℕ) → at ≡ length nodes → IsLink nodes link → IsOlder at link
@@ -98,6 +99,7 @@ newest-here n older at fit e =
       tree = here ∙ ap₂ (λ (l r : Tree (Item Body)). node l (item_of n.entry) r) (sym old_left) (sym old_right);
       names = name_here ∙ ap₂ (λ (l r : Tree ℕ). node l at r) (sym name_left) (sym name_right);
       size_is = fit.size_is ∙ ap size (sym here);
+      before_is = fit.before_is ∙ ap size (sym old_left);
     }
 
 pub read_at : (nodes : List Node) (at : ℕ) (d : Node) → Fits nodes → at < length nodes → IsNodeAt nodes at (get_or (reverse nodes) at d)

@@ -61,6 +61,16 @@ pub put-right : {A : Type 0} (l : Tree A) (x : A) (r t u : Tree A) (along rest :
 unfolding put_at with_child child
 put-right l x r t u along rest e ew = ap₂ (λ (w : List Side) (s : Tree _). put_at w s u) ew e
 
+-- ---- the tree there
+
+pub at-left : {A : Type 0} (l : Tree A) (x : A) (r t : Tree A) (along rest : List Side) → t ≡ node l x r → along ≡ Left ∷ rest → tree_at along t ≡ tree_at rest l
+unfolding tree_at child
+at-left l x r t along rest e ew = ap₂ (λ (w : List Side) (s : Tree _). tree_at w s) ew e
+
+pub at-right : {A : Type 0} (l : Tree A) (x : A) (r t : Tree A) (along rest : List Side) → t ≡ node l x r → along ≡ Right ∷ rest → tree_at along t ≡ tree_at rest r
+unfolding tree_at child
+at-right l x r t along rest e ew = ap₂ (λ (w : List Side) (s : Tree _). tree_at w s) ew e
+
 -- ---- parts of parts
 
 pub part_itself : (nodes : List Node) (part : Part) (along : List Side) → along ≡ [] → IsLink nodes part.link → part.path.len + height (tree_of nodes part.link) ≤ 63 → part.rank < size (tree_of nodes part.link) → IsPartOf nodes part part along

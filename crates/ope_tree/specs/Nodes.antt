@@ -35,11 +35,13 @@ unfoldable pub IsLink : List Node → Option ℕ → Type 0
 IsLink nodes None = Unit {0}
 IsLink nodes (Some at) = at < length nodes
 
--- a node that may stand after these: its children are among them, and its size counts the items of their trees and its own
+-- a node that may stand after these: its children are among them, its size counts the items of their trees and its own, and those
+-- before its own are the left one's
 pub record FitsAfter (older : List Node) (n : Node) : Type 0 where
   pub left : IsLink older n.left
   pub right : IsLink older n.right
   pub size_is : n.size ≡ size (tree_of older n.left) + suc (size (tree_of older n.right))
+  pub before_is : n.before ≡ size (tree_of older n.left)
 
 -- each node fits after the older ones
 unfoldable pub Fits : List Node → Type 0
@@ -60,3 +62,4 @@ pub record IsNodeAt (nodes : List Node) (at : ℕ) (n : Node) : Type 0 where
   pub tree : tree_of nodes (Some at) ≡ node (tree_of nodes n.left) (item_of n.entry) (tree_of nodes n.right)
   pub names : names_of nodes (Some at) ≡ node (names_of nodes n.left) at (names_of nodes n.right)
   pub size_is : n.size ≡ size (tree_of nodes (Some at))
+  pub before_is : n.before ≡ size (tree_of nodes n.left)

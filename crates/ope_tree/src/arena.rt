@@ -9,7 +9,7 @@ use std::alloc::Global;
 use std::marker::Model;
 
 /// Nodes that are never changed, seen as their list, newest first. A node's number is how many are older; its children are
-/// older than it, and its size is that of its tree.
+/// older than it, and its numbers of items are those of its tree and of its left one.
 #[derive(Drop)]
 pub struct Arena {
     alloc: Global,

@@ -1,6 +1,6 @@
 //! New trees over an arena's.
 ghost use Rattle.ope_tree.specs.Built.{IsBuilt};
-ghost use Rattle.ope_tree.specs.Nodes.{IsLink, item_of, items_of_entries, tree_of};
+ghost use Rattle.ope_tree.specs.Nodes.{FitsAfter, IsLink, item_of, items_of_entries, tree_of};
 ghost use Rattle.std.specs.Prelude.{◌≡◌, ◌++◌, IfOk, OnOk};
 ghost use Rattle.tree_model.specs.Trees.{balanced, inorder, node, size};
 
@@ -18,6 +18,15 @@ pub fn size_of(nodes: &Arena, link: Option<u32>) -> u32
         None => 0,
         Some(at) => nodes.get(at).size,
     }
+}
+
+/// A node put after the others, where it must fit.
+pub fn add_node(nodes: &mut Arena, top: Node) -> Result<Option<u32>, OutOfMemory>
+    requires { FitsAfter nodes.old top }
+    ensures { IfOk result (λ link. IsBuilt nodes.old nodes.new link (node (tree_of nodes.old top.left) (item_of top.entry) (tree_of nodes.old top.right))) }
+{
+    let at = nodes.push(top)?;
+    Ok(Some(at))
 }
 
 /// A node over two trees. 2^32 items are want of memory.
@@ -43,13 +52,14 @@ pub fn join(
         left,
         right,
         size,
+        before,
         entry,
     };
     let at = nodes.push(joined)?;
     Ok(Some(at))
 }
 
-/// The balanced tree of these items. It is built from its leaves up, since a node stands after its children; so it has no use for
+/// The balanced tree of these items; 2^32 items are want of memory. It is built from its leaves up, since a node stands after its children; so it has no use for
 /// a list of links in which a right child stands after its parent, as `scapegoat::balanced_links` makes.
 pub fn balance(nodes: &mut Arena, entries: &[Entry]) -> Result<Option<u32>, OutOfMemory>
     ensures { IfOk result (λ link. IsBuilt nodes.old nodes.new link (balanced (items_of_entries entries.now))) }
@@ -57,11 +67,20 @@ pub fn balance(nodes: &mut Arena, entries: &[Entry]) -> Result<Option<u32>, OutO
     if entries.is_empty() {
         return Ok(None);
     }
+    let Ok(size) = u32::try_from(entries.len()) else {
+        return Err(OutOfMemory);
+    };
     let half = entries.len() / 2;
     let left = balance(nodes, &entries[..half])?;
     let right = balance(nodes, &entries[half + 1..])?;
-    let middle = entries[half];
-    let link = join(nodes, left, middle, right)?;
+    let whole = Node {
+        left,
+        right,
+        size,
+        before: size / 2,
+        entry: entries[half],
+    };
+    let link = add_node(nodes, whole)?;
     Ok(link)
 }
 

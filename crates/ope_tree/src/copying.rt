@@ -5,7 +5,8 @@ ghost use Rattle.std.specs.Prelude.{◌≡◌, false, true, IfOk, IsErr};
 
 use crate::Tree;
 use crate::arena::Arena;
-use crate::building::{join, size_of};
+use crate::building::{add_node, size_of};
+use crate::nodes::Node;
 use mope_base::OutOfMemory;
 
 /// An arena may have three nodes for each item and this many more. So a copy costs half of the changes that filled the
@@ -23,7 +24,12 @@ fn copy_into(from: &Arena, link: Option<u32>, into: &mut Arena) -> Result<Option
     let node = from.get(at);
     let left = copy_into(from, node.left, into)?;
     let right = copy_into(from, node.right, into)?;
-    join(into, left, node.entry, right)
+    let copy = Node {
+        left,
+        right,
+        ..node
+    };
+    add_node(into, copy)
 }
 
 /// The tree of a link once more, in an arena that has only its nodes where the old one had far more than it needs.

@@ -6,7 +6,6 @@ ghost use Rattle.tree_model.specs.Items.{Item};
 ghost use Rattle.tree_model.specs.declared.Side.{Side};
 
 use crate::Tree;
-use crate::building::size_of;
 use crate::places::{Spot, onward};
 use crate::stops::{At, Stop, stop_of};
 use mope_base::Body;
@@ -60,6 +59,6 @@ impl Tree {
         ensures { (way : List Side) → IsCursorAt self.now way cursor → IsRankAt (Item Body) self.now.column.tree way result }
     {
         let node = self.nodes.get(cursor.at.0);
-        cursor.before + size_of(&self.nodes, node.left)
+        cursor.before + node.before
     }
 }

@@ -17,11 +17,11 @@ ghost use Rattle.tree_model.specs.Trees.{height, inorder, size};
 
 use crate::Tree;
 use crate::arena::Arena;
-use crate::building::{join, size_of};
+use crate::building::add_node;
 use crate::change::Change;
 use crate::copying::compact;
 use crate::done::Done;
-use crate::nodes::Entry;
+use crate::nodes::{Entry, Node};
 use crate::reading::entry_at;
 use crate::removing::take_out;
 use crate::shape::Shape;
@@ -63,10 +63,16 @@ fn lower_count(nodes: &mut Arena, link: Option<u32>, rank: u32) -> Result<Fewer,
         return Ok(Fewer { link, emptied: 0 });
     };
     let node = nodes.get(at);
-    let before = size_of(nodes, node.left);
+    let before = node.before;
     if rank < before {
         let left = lower_count(nodes, node.left, rank)?;
-        let link = join(nodes, left.link, node.entry, node.right)?;
+        let link = add_node(
+            nodes,
+            Node {
+                left: left.link,
+                ..node
+            },
+        )?;
         return Ok(Fewer {
             link,
             emptied: left.emptied,
@@ -74,13 +80,25 @@ fn lower_count(nodes: &mut Arena, link: Option<u32>, rank: u32) -> Result<Fewer,
     }
     if before < rank {
         let right = lower_count(nodes, node.right, rank - before - 1)?;
-        let link = join(nodes, node.left, node.entry, right.link)?;
+        let link = add_node(
+            nodes,
+            Node {
+                right: right.link,
+                ..node
+            },
+        )?;
         return Ok(Fewer {
             link,
             emptied: right.emptied,
         });
     }
-    let link = join(nodes, node.left, fewer_rows(node.entry), node.right)?;
+    let link = add_node(
+        nodes,
+        Node {
+            entry: fewer_rows(node.entry),
+            ..node
+        },
+    )?;
     Ok(Fewer {
         link,
         emptied: newly_dead(node.entry),

@@ -6,8 +6,8 @@ ghost use Rattle.tree_model.specs.Insertion.{graft};
 ghost use Rattle.tree_model.specs.Removal.{change_tree};
 
 use crate::arena::Arena;
-use crate::building::{join, size_of};
-use crate::nodes::Entry;
+use crate::building::{add_node, join};
+use crate::nodes::{Entry, Node};
 use mope_base::OutOfMemory;
 
 /// The tree of a link with a new item at the gap of a rank.
@@ -25,14 +25,30 @@ pub fn graft(
         return Ok(grafted);
     };
     let node = nodes.get(at);
-    let before = size_of(nodes, node.left);
+    let before = node.before;
+    let Some(size) = node.size.checked_add(1) else {
+        return Err(OutOfMemory);
+    };
     if rank <= before {
         let left = graft(nodes, node.left, rank, entry)?;
-        let grafted = join(nodes, left, node.entry, node.right)?;
+        let more = Node {
+            left,
+            size,
+            before: before + 1,
+            ..node
+        };
+        let grafted = add_node(nodes, more)?;
         return Ok(grafted);
     }
     let right = graft(nodes, node.right, rank - before - 1, entry)?;
-    let grafted = join(nodes, node.left, node.entry, right)?;
+    let grafted = add_node(
+        nodes,
+        Node {
+            right,
+            size,
+            ..node
+        },
+    )?;
     Ok(grafted)
 }
 
@@ -50,17 +66,17 @@ pub fn replace_item(
         return Ok(None);
     };
     let node = nodes.get(at);
-    let before = size_of(nodes, node.left);
+    let before = node.before;
     if rank < before {
         let left = replace_item(nodes, node.left, rank, entry)?;
-        let changed = join(nodes, left, node.entry, node.right)?;
+        let changed = add_node(nodes, Node { left, ..node })?;
         return Ok(changed);
     }
     if before < rank {
         let right = replace_item(nodes, node.right, rank - before - 1, entry)?;
-        let changed = join(nodes, node.left, node.entry, right)?;
+        let changed = add_node(nodes, Node { right, ..node })?;
         return Ok(changed);
     }
-    let changed = join(nodes, node.left, entry, node.right)?;
+    let changed = add_node(nodes, Node { entry, ..node })?;
     Ok(changed)
 }

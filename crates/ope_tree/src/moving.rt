@@ -9,7 +9,6 @@ ghost use Rattle.tree_model.specs.Trees.{height};
 ghost use Rattle.tree_model.specs.declared.Side.TheVariants.{Right};
 
 use crate::arena::Arena;
-use crate::building::size_of;
 use crate::coding::{differing, push_codes};
 use mope_base::OutOfMemory;
 use path_code::{Path, Recode, child, code};
@@ -123,7 +122,7 @@ pub fn removal_moved(
         return Ok(Vec::new(nodes.allocator()));
     };
     let node = nodes.get(at);
-    let before = size_of(nodes, node.left);
+    let before = node.before;
     if rank < before {
         let moved = removal_moved(nodes, node.left, child(path, Side::Left), rank)?;
         return Ok(moved);

@@ -8,11 +8,12 @@ pub struct Entry {
     pub count: u32,
 }
 
-/// A node, with the numbers of its children and the number of items in its tree.
+/// A node, with the numbers of its children, and how many items its tree has and how many of them stand before its own.
 #[derive(Clone, Copy)]
 pub struct Node {
     pub left: Option<u32>,
     pub right: Option<u32>,
     pub size: u32,
+    pub before: u32,
     pub entry: Entry,
 }

@@ -11,7 +11,6 @@ ghost use Rattle.mope_base.specs.declared.body.Body.{Body};
 
 use crate::Tree;
 use crate::arena::Arena;
-use crate::building::size_of;
 use path_code::Path;
 use tree_model::{Place, Side};
 
@@ -47,7 +46,7 @@ pub fn onward(nodes: &Arena, at: u32, before: u32, side: Side) -> Spot
         },
         Side::Right => Spot {
             link: node.right,
-            before: before + size_of(nodes, node.left) + 1,
+            before: before + node.before + 1,
         },
     }
 }
@@ -60,7 +59,7 @@ fn place_of_root(nodes: &Arena, spot: Spot) -> Place
 {
     match spot.link {
         None => Place::Gap(spot.before),
-        Some(at) => Place::Found(spot.before + size_of(nodes, nodes.get(at).left)),
+        Some(at) => Place::Found(spot.before + nodes.get(at).before),
     }
 }
 

@@ -9,7 +9,6 @@ ghost use Rattle.tree_model.specs.Trees.{IsPlaceOf, height, inorder, size};
 
 use crate::Tree;
 use crate::arena::Arena;
-use crate::building::size_of;
 use crate::nodes::Entry;
 use crate::ways::{is_place, path_to};
 use mope_base::Body;
@@ -25,7 +24,7 @@ pub fn entry_at(nodes: &Arena, link: Option<u32>, rank: u32) -> Option<Entry>
         return None;
     };
     let node = nodes.get(at);
-    let before = size_of(nodes, node.left);
+    let before = node.before;
     if rank < before {
         return entry_at(nodes, node.left, rank);
     }

@@ -7,7 +7,7 @@ ghost use Rattle.tree_model.specs.Removal.{first_or, joined, remove_tree, withou
 ghost use Rattle.tree_model.specs.Trees.{height, size};
 
 use crate::arena::Arena;
-use crate::building::{join, size_of};
+use crate::building::join;
 use crate::change::Change;
 use crate::done::Done;
 use crate::moving::removal_moved;
@@ -82,7 +82,7 @@ fn remove_item(nodes: &mut Arena, link: Option<u32>, rank: u32) -> Result<Option
         return Ok(None);
     };
     let node = nodes.get(at);
-    let before = size_of(nodes, node.left);
+    let before = node.before;
     if rank < before {
         let left = remove_item(nodes, node.left, rank)?;
         let fewer = join(nodes, left, node.entry, node.right)?;

@@ -6,13 +6,14 @@ ghost use Rattle.ope_tree.specs.Settling.{IsMovedIn, IsPartOf, added_in, moved_i
 ghost use Rattle.path_code.specs.Ways.{way};
 ghost use Rattle.std.specs.Prelude.{◌≡◌, ◌+◌, ◌<◌, ◌≤◌, ◌++◌, ◌^◌, get_or, length, remove, reverse, take, IfOk, OnOk};
 ghost use Rattle.tree_model.specs.Balance.{limit};
-ghost use Rattle.tree_model.specs.Insertion.{balanced_at, put_at, scapegoat_way, sizes_along};
+ghost use Rattle.tree_model.specs.Insertion.{balanced_at, put_at, scapegoat_way, sizes_along, tree_at};
 ghost use Rattle.tree_model.specs.Trees.{balanced, height, inorder, path, size};
 ghost use Rattle.tree_model.specs.declared.Place.TheVariants.{Found};
 
 use crate::arena::Arena;
-use crate::building::{balance, collect, join, size_of};
+use crate::building::{add_node, balance, collect};
 use crate::coding::{differing, push_codes};
+use crate::nodes::Node;
 use mope_base::OutOfMemory;
 use path_code::{Path, Recode, child, root};
 use scapegoat::pick;
@@ -48,7 +49,7 @@ pub fn part_below(nodes: &Arena, part: Part, depth: u8) -> Part
         return part;
     }
     let node = nodes.get(at);
-    let before = size_of(nodes, node.left);
+    let before = node.before;
     if part.rank < before {
         let left = Part {
             link: node.left,
@@ -68,7 +69,8 @@ pub fn part_below(nodes: &Arena, part: Part, depth: u8) -> Part
     part
 }
 
-/// The tree of a link with another tree in place of the part so many steps down on the way to the item of a rank.
+/// The tree of a link with another tree of as many items in place of the part so many steps down on the way to the item of a
+/// rank.
 pub fn put_part(
     nodes: &mut Arena,
     link: Option<u32>,
@@ -78,6 +80,7 @@ pub fn put_part(
 ) -> Result<Option<u32>, OutOfMemory>
     requires link { IsLink nodes.old link }
     requires part { IsLink nodes.old part }
+    requires same { size (tree_of nodes.old part) ≡ size (tree_at (take depth (path (tree_of nodes.old link) (Found rank))) (tree_of nodes.old link)) }
     ensures { IfOk result (λ whole. IsBuilt nodes.old nodes.new whole (put_at (take depth (path (tree_of nodes.old link) (Found rank))) (tree_of nodes.old link) (tree_of nodes.old part))) }
 {
     let Some(at) = link else {
@@ -87,15 +90,15 @@ pub fn put_part(
         return Ok(part);
     }
     let node = nodes.get(at);
-    let before = size_of(nodes, node.left);
+    let before = node.before;
     if rank < before {
         let left = put_part(nodes, node.left, rank, depth - 1, part)?;
-        let whole = join(nodes, left, node.entry, node.right)?;
+        let whole = add_node(nodes, Node { left, ..node })?;
         return Ok(whole);
     }
     if before < rank {
         let right = put_part(nodes, node.right, rank - before - 1, depth - 1, part)?;
-        let whole = join(nodes, node.left, node.entry, right)?;
+        let whole = add_node(nodes, Node { right, ..node })?;
         return Ok(whole);
     }
     Ok(part)
@@ -115,7 +118,7 @@ pub fn push_sizes(
         return Ok(());
     };
     let node = nodes.get(at);
-    let before = size_of(nodes, node.left);
+    let before = node.before;
     if rank < before {
         push_sizes(nodes, node.left, rank, sizes)?;
         sizes.push(u64::from(node.size))?;

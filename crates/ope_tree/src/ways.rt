@@ -5,7 +5,6 @@ ghost use Rattle.std.specs.Prelude.{◌≡◌, ◌↔◌, ◌+◌, ◌≤◌, �
 ghost use Rattle.tree_model.specs.Trees.{IsPlaceOf, height, past, path, turn_at};
 
 use crate::arena::Arena;
-use crate::building::size_of;
 use path_code::{Path, child};
 use tree_model::{Place, Side};
 
@@ -65,7 +64,7 @@ pub fn path_to(nodes: &Arena, link: Option<u32>, place: Place, above: Path) -> P
         return above;
     };
     let node = nodes.get(at);
-    let before = size_of(nodes, node.left);
+    let before = node.before;
     match turn(before, place) {
         None => above,
         Some(Side::Left) => path_to(nodes, node.left, place, child(above, Side::Left)),

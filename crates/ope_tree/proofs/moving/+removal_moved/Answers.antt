@@ -80,8 +80,8 @@ returns-then-before-rank t c =
     let r = tree_of nodes c.get-node.result.right in
     let x = item_of c.get-node.result.entry in
     let here = ap (λ (link : Option ℕ). tree_of nodes link) c.in-Some.is ∙ c.get-node.ensures.tree in
-    let k = c.args.rank - c.size_of-before.result - 1 in
-    let same : k ≡ c.args.rank - suc (size l) = omega (arith, c.size_of-before.ensures) in
+    let k = c.args.rank - c.get-node.result.before - 1 in
+    let same : k ≡ c.args.rank - suc (size l) = omega (arith, c.get-node.ensures.before_is) in
     c.in_ok-moved-2.ensures
     ∙ ap (λ (v : List Side). removal_moved v r k) c.child-right.ensures.way
     ∙ ap (λ (n : ℕ). removal_moved (w ++ Right ∷ []) r n) same

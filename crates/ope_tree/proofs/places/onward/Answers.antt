@@ -10,13 +10,13 @@ pub overflow_add-result : goal.overflow_add-result
 overflow_add-result c =
     let is = c.get-node.ensures in
     let many = ap size is.tree ∙ size-node (tree_of c.args.nodes.now c.get-node.result.left) (item_of c.get-node.result.entry) (tree_of c.args.nodes.now c.get-node.result.right) in
-    omega (arith, c.requires.few, c.size_of.ensures, many)
+    omega (arith, c.requires.few, is.before_is, many)
 
 pub overflow_add-result-in-Right : goal.overflow_add-result-in-Right
 overflow_add-result-in-Right c =
     let is = c.get-node.ensures in
     let many = ap size is.tree ∙ size-node (tree_of c.args.nodes.now c.get-node.result.left) (item_of c.get-node.result.entry) (tree_of c.args.nodes.now c.get-node.result.right) in
-    omega (arith, c.requires.few, c.size_of.ensures, many)
+    omega (arith, c.requires.few, is.before_is, many)
 
 pub returns-in-Left : goal.returns-in-Left
 unfolding child beside
@@ -41,5 +41,5 @@ returns-in-Right c =
       is_link = is.right;
       names = rw (is.tree, c.in-Right.is) refl;
       called = rw (is.names, c.in-Right.is) refl;
-      count_is = rw (is.tree, c.in-Right.is) (omega (arith, c.size_of.ensures));
+      count_is = rw (is.tree, c.in-Right.is) (omega (arith, is.before_is));
     }

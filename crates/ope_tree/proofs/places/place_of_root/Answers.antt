@@ -13,7 +13,7 @@ overflow_add-result c =
     let is = c.get.ensures in
     let many = ap size is.tree ∙ size-node (tree_of c.args.nodes.now c.get.result.left) (item_of c.get.result.entry) (tree_of c.args.nodes.now c.get.result.right) in
     let here = ap (λ (link : Option ℕ). size (tree_of c.args.nodes.now link)) c.in-Some.is in
-    omega (arith, c.requires.few, c.size_of.ensures, many, here)
+    omega (arith, c.requires.few, is.before_is, many, here)
 
 pub returns-in-None : goal.returns-in-None
 returns-in-None c = (no_tree c.args.nodes.now c.args.spot.link c.in-None.is, refl)
@@ -26,5 +26,5 @@ returns-in-Some c =
       item = item_of c.get.result.entry;
       right = tree_of c.args.nodes.now c.get.result.right;
       root = ap (λ (link : Option ℕ). tree_of c.args.nodes.now link) c.in-Some.is ∙ is.tree;
-      rank_is = omega (arith, c.size_of.ensures);
+      rank_is = omega (arith, is.before_is);
     }

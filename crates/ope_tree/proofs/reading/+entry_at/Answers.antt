@@ -35,7 +35,7 @@ pub returns-then-before-rank : goal.returns-then-before-rank
 returns-then-before-rank t c =
     let nodes = c.args.nodes.now in
     let here = ap (λ (link : Option ℕ). tree_of nodes link) c.in-Some.is ∙ c.get-node.ensures.tree in
-    item-right (tree_of nodes c.get-node.result.left) (item_of c.get-node.result.entry) (tree_of nodes c.get-node.result.right) (tree_of nodes c.args.link) c.args.rank (c.args.rank - c.size_of-before.result - 1) here (omega arith)
+    item-right (tree_of nodes c.get-node.result.left) (item_of c.get-node.result.entry) (tree_of nodes c.get-node.result.right) (tree_of nodes c.args.link) c.args.rank (c.args.rank - c.get-node.result.before - 1) here (omega arith)
     ∙ c.entry_at-then-before-rank.ensures
 
 pub returns : goal.returns

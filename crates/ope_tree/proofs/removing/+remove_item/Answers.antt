@@ -61,8 +61,8 @@ returns-then-before-rank t c =
     let r = tree_of nodes right in
     let x = item_of c.get-node.result.entry in
     let here = ap (λ (link : Option ℕ). tree_of nodes link) c.in-Some.is ∙ c.get-node.ensures.tree in
-    let k = c.args.rank - c.size_of-before.result - 1 in
-    let same : c.args.rank - suc (size l) ≡ k = omega (arith, c.size_of-before.ensures) in
+    let k = c.args.rank - c.get-node.result.before - 1 in
+    let same : c.args.rank - suc (size l) ≡ k = omega (arith, c.get-node.ensures.before_is) in
     built_right_as nodes c.remove_item-then-before-rank.new.nodes c.join-then-before-rank.new.nodes left c.in_ok-right.right c.in_ok-fewer-2.fewer x (remove_tree r k) (remove_tree (tree_of nodes c.args.link) c.args.rank)
     c.get-node.ensures.left c.in_ok-right.ensures c.in_ok-fewer-2.ensures
     (ap (λ (u : Tree (Item Body)). remove_tree u c.args.rank) here ∙ remove-right l x r c.args.rank (omega arith) ∙ ap (λ (n : ℕ). node l x (remove_tree r n)) same)

@@ -88,7 +88,7 @@ returns-then-before-part t c =
     let k = d - 1 in
     let step : d ≡ suc k = omega arith in
     let w = take d (path whole (Found part.rank)) in
-    let m = part.rank - c.size_of-before.result - 1 in
+    let m = part.rank - c.get-node.result.before - 1 in
     let inner : Part = record { link = c.get-node.result.right; path = c.child-then-before-part.result; rank = m } in
     let rest = take k (path r (Found m)) in
     part_right nodes part inner c.part_below-then-before-part.result l x w rest (along-right l x r whole part.rank m d k here (omega arith) step) here c.child-then-before-part.ensures.way (omega arith) c.part_below-then-before-part.ensures

@@ -57,7 +57,7 @@ returns-then-before-rank t c =
     let x = item_of c.get-node.result.entry in
     let here : whole ≡ node l x r = ap (λ (link : Option ℕ). tree_of nodes link) c.in-Some.is ∙ c.get-node.ensures.tree in
     let count = c.get-node.ensures.size_is ∙ ap (λ (link : Option ℕ). size (tree_of nodes link)) (sym c.in-Some.is) in
-    let m = c.args.rank - c.size_of-before.result - 1 in
+    let m = c.args.rank - c.get-node.result.before - 1 in
     sizes-step c.args.sizes.now.items c.push_sizes-then-before-rank.new.sizes.items c.push-then-before-rank.new.self.items c.from-then-before-rank.result Right (path whole (Found c.args.rank)) (path r (Found m)) whole r
     (path-right l x r whole c.args.rank m here (omega arith)) (ap (λ (u : Tree (Item Body)). child Right u) here) (c.from-then-before-rank.ensures ∙ count) c.in_ok-push_sizes-2.ensures c.in_ok-push-2.ensures.items
 

@@ -1,16 +1,31 @@
-use Rattle.std.proofs.Common.{◌≡◌, take, ap, ◌∙◌}
+use Rattle.std.proofs.Common.{◌≡◌, take, ap, ◌∙◌, sym}
 use Rattle.tree_model.specs.declared.Place.TheVariants.{Found}
-use Rattle.tree_model.specs.Trees.{Tree, balanced, inorder, path}
+use Rattle.tree_model.specs.Trees.{Tree, balanced, inorder, path, size}
 use Rattle.tree_model.specs.Items.{Item}
 use Rattle.tree_model.specs.Insertion.{tree_at, put_at, balanced_at}
 use Rattle.mope_base.specs.declared.body.Body.{Body}
 use Rattle.ope_tree.specs.Nodes.{item_of, tree_of}
 use Rattle.ope_tree.proofs.Builders.{built_same, built_after}
 use Rattle.ope_tree.proofs.Links.{IsLink-extended, tree_by-extended}
+use Rattle.tree_model.proofs.Halves.{size-balanced}
+use Rattle.tree_model.proofs.Ways.{length-inorder}
 use Rattle.ope_tree.proofs.settling.balance_below.Goals as goal
 
 pub put_part-requires-clause-link : goal.put_part-requires-clause-link
 put_part-requires-clause-link c = IsLink-extended c.args.nodes.now c.balance_part.new.nodes c.args.link c.in_ok-balanced.ensures.built.extends c.requires.link
+
+pub put_part-requires-clause-same : goal.put_part-requires-clause-same
+put_part-requires-clause-same c =
+    let old = c.args.nodes.now in
+    let mid = c.balance_part.new.nodes in
+    let t = tree_of old c.args.link in
+    let part = tree_at (take c.args.depth (path t (Found c.args.rank))) t in
+    let built = c.in_ok-balanced.ensures.built in
+    let same : tree_of mid c.args.link ≡ t = tree_by-extended (λ at n. item_of n.entry) old mid c.args.link built.extends c.requires.link in
+    ap size (built.names ∙ ap (λ (u : Tree (Item Body)). balanced (inorder u)) c.part_below-part.ensures.tree)
+    ∙ size-balanced (inorder part)
+    ∙ length-inorder part
+    ∙ ap (λ (u : Tree (Item Body)). size (tree_at (take c.args.depth (path u (Found c.args.rank))) u)) (sym same)
 
 pub returns-clause-built : goal.returns-clause-built
 unfolding balanced_at

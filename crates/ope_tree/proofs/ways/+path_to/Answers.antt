@@ -51,7 +51,7 @@ pub returns-in-None : goal.returns-in-None
 returns-in-None t c =
     let nodes = c.args.nodes.now in
     let here = ap (λ (link : Option ℕ). tree_of nodes link) c.in-Some.is ∙ c.get-node.ensures.tree in
-    let turn = ap (λ (n : ℕ). turn_at n c.args.place) (sym c.size_of-before.ensures) ∙ sym c.turn.ensures ∙ c.in-None.is in
+    let turn = ap (λ (n : ℕ). turn_at n c.args.place) (sym c.get-node.ensures.before_is) ∙ sym c.turn.ensures ∙ c.in-None.is in
     way-here (way c.args.above) (tree_of nodes c.get-node.result.left) (item_of c.get-node.result.entry) (tree_of nodes c.get-node.result.right) (tree_of nodes c.args.link) c.args.place here turn
 
 pub returns-in-Some-Left : goal.returns-in-Some-Left
@@ -59,7 +59,7 @@ returns-in-Some-Left t c =
     let nodes = c.args.nodes.now in
     let l = tree_of nodes c.get-node.result.left in
     let here = ap (λ (link : Option ℕ). tree_of nodes link) c.in-Some.is ∙ c.get-node.ensures.tree in
-    let turn = ap (λ (n : ℕ). turn_at n c.args.place) (sym c.size_of-before.ensures) ∙ sym c.turn.ensures ∙ c.in-Some-Left.is ∙ ap Some c.in-Some-Left.field-0-is in
+    let turn = ap (λ (n : ℕ). turn_at n c.args.place) (sym c.get-node.ensures.before_is) ∙ sym c.turn.ensures ∙ c.in-Some-Left.is ∙ ap Some c.in-Some-Left.field-0-is in
     way-left (way c.args.above) (way c.path_to.result) l (item_of c.get-node.result.entry) (tree_of nodes c.get-node.result.right) (tree_of nodes c.args.link) c.args.place here turn
     (c.path_to.ensures ∙ ap (λ (w : List Side). w ++ path l c.args.place) c.child.ensures.way)
 
@@ -69,8 +69,8 @@ returns-in-Some-Right t c =
     let l = tree_of nodes c.get-node.result.left in
     let r = tree_of nodes c.get-node.result.right in
     let here = ap (λ (link : Option ℕ). tree_of nodes link) c.in-Some.is ∙ c.get-node.ensures.tree in
-    let turn = ap (λ (n : ℕ). turn_at n c.args.place) (sym c.size_of-before.ensures) ∙ sym c.turn.ensures ∙ c.in-Some-Right.is ∙ ap Some c.in-Some-Right.field-0-is in
-    let next : c.size_of-before.result + 1 ≡ suc (size l) = omega (arith, c.size_of-before.ensures) in
+    let turn = ap (λ (n : ℕ). turn_at n c.args.place) (sym c.get-node.ensures.before_is) ∙ sym c.turn.ensures ∙ c.in-Some-Right.is ∙ ap Some c.in-Some-Right.field-0-is in
+    let next : c.get-node.result.before + 1 ≡ suc (size l) = omega (arith, c.get-node.ensures.before_is) in
     way-right (way c.args.above) (way c.path_to-in-Some-Right.result) l (item_of c.get-node.result.entry) r (tree_of nodes c.args.link) c.args.place here turn
     (c.path_to-in-Some-Right.ensures
     ∙ ap (λ (w : List Side). w ++ path r c.past.result) c.child-in-Some-Right.ensures.way

@@ -26,12 +26,12 @@ overflow_add-result c =
     let P : Seen → Type 0 = λ seen. IsCursorAt seen way c.args.cursor in
     let few = cursor-few t.nodes t.shape.root t.shape.alive t.shape.most t.spent way c.args.cursor c.self.invariant (subst P (sym c.self.view_is) c.requires.1) in
     let many = ap size c.get-node.ensures.tree ∙ size-node (tree_of t.nodes n.left) (item_of n.entry) (tree_of t.nodes n.right) in
-    omega (arith, few, many, c.size_of.ensures)
+    omega (arith, few, many, c.get-node.ensures.before_is)
 
 pub returns : goal.returns
 returns c = λ way is.
     let t = c.self.inside in
     let n = c.get-node.result in
     let P : Seen → Type 0 = λ seen. IsCursorAt seen way c.args.cursor in
-    let Q : Seen → Type 0 = λ seen. IsRankAt (Item Body) seen.column.tree way (c.args.cursor.before + c.size_of.result) in
-    subst Q c.self.view_is (ranked t.nodes t.shape.root t.shape.most t.spent way c.args.cursor n (c.args.cursor.before + c.size_of.result) (subst P (sym c.self.view_is) is) c.get-node.ensures (ap (λ (k : ℕ). c.args.cursor.before + k) c.size_of.ensures))
+    let Q : Seen → Type 0 = λ seen. IsRankAt (Item Body) seen.column.tree way (c.args.cursor.before + n.before) in
+    subst Q c.self.view_is (ranked t.nodes t.shape.root t.shape.most t.spent way c.args.cursor n (c.args.cursor.before + n.before) (subst P (sym c.self.view_is) is) c.get-node.ensures (ap (λ (k : ℕ). c.args.cursor.before + k) c.get-node.ensures.before_is))

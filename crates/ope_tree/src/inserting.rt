@@ -23,7 +23,6 @@ use crate::nodes::Entry;
 use crate::reading::entry_at;
 use crate::settling::balance_tall_part;
 use crate::shape::Shape;
-use crate::ways::path_to;
 use mope_base::{Body, OutOfMemory};
 use path_code::{code, root as root_path};
 use scapegoat::too_deep;
@@ -97,20 +96,21 @@ fn insert_at_gap(
 {
     let alloc = nodes.allocator();
     let most = shape.most.max(size_of(nodes, shape.root) + 1);
-    let path = path_to(nodes, shape.root, Place::Gap(rank), root_path());
-    let grafted = graft(nodes, shape.root, rank, Entry { body, count: 1 })?;
+    let entry = Entry { body, count: 1 };
+    let grafted = graft(nodes, shape.root, rank, entry, root_path())?;
+    let path = grafted.path;
     if !too_deep(path.len, u64::from(most)) {
         let change = added_alone(alloc, code(path))?;
         return Ok(Done {
             shape: Shape {
-                root: grafted,
+                root: grafted.link,
                 alive: shape.alive + 1,
                 most,
             },
             change,
         });
     }
-    let rebuilt = balance_tall_part(nodes, grafted, rank, u64::from(most))?;
+    let rebuilt = balance_tall_part(nodes, grafted.link, rank, u64::from(most))?;
     let mut added = Vec::new(alloc);
     added.push(rebuilt.added)?;
     Ok(Done {

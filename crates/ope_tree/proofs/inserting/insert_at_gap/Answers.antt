@@ -19,8 +19,8 @@ use Rattle.ope_tree.proofs.InsertionSteps.{column_added, live_added, insert-tall
 use Rattle.ope_tree.proofs.Sound.{sound_short, sound_low, sound_after, normal_after}
 use Rattle.ope_tree.proofs.inserting.insert_at_gap.Goals as goal
 
-pub path_to-path-requires-clause-short : goal.path_to-path-requires-clause-short
-path_to-path-requires-clause-short c =
+pub graft-requires-clause-short : goal.graft-requires-clause-short
+graft-requires-clause-short c =
     omega (arith, c.root.ensures.len, sound_short c.args.nodes.now c.args.shape.root c.args.shape.alive c.args.shape.most false c.requires.sound)
 
 pub overflow_add-result : goal.overflow_add-result
@@ -52,11 +52,11 @@ returns-then-not-too_deep-clause-column c =
     let most = c.max-most.result in
     let next : c.size_of.result + 1 ≡ suc (size t) = omega (arith, c.size_of.ensures) in
     let top : most ≡ max c.args.shape.most (suc (size t)) = c.max-most.ensures ∙ ap (λ (k : ℕ). max c.args.shape.most k) next in
-    let way_is : way c.path_to-path.result ≡ path t (Gap rank) = c.path_to-path.ensures ∙ ap (λ (w : List Side). w ++ path t (Gap rank)) c.root.ensures.empty in
-    let len : c.path_to-path.result.len ≡ length (path t (Gap rank)) = path_len c.path_to-path.result (path t (Gap rank)) way_is in
-    let within : c.path_to-path.result.len ≤ limit c.from.result = not_deeper (limit c.from.result) c.path_to-path.result.len c.if-not-too_deep.ensures.1 in
+    let way_is : way c.in_ok-grafted.grafted.path ≡ path t (Gap rank) = c.in_ok-grafted.ensures.path ∙ ap (λ (w : List Side). w ++ path t (Gap rank)) c.root.ensures.empty in
+    let len : c.in_ok-grafted.grafted.path.len ≡ length (path t (Gap rank)) = path_len c.in_ok-grafted.grafted.path (path t (Gap rank)) way_is in
+    let within : c.in_ok-grafted.grafted.path.len ≤ limit c.from.result = not_deeper (limit c.from.result) c.in_ok-grafted.grafted.path.len c.if-not-too_deep.ensures.1 in
     let shallow : length (path t (Gap rank)) ≤ limit most = omega (arith, within, len, ap limit c.from.ensures) in
-    column_added t (tree_of c.graft.new.nodes c.in_ok-grafted.grafted) c.args.shape.most most rank b top (c.in_ok-grafted.ensures.names ∙ sym (insert-shallow most rank (new_item b) t shallow))
+    column_added t (tree_of c.graft.new.nodes c.in_ok-grafted.grafted.link) c.args.shape.most most rank b top (c.in_ok-grafted.ensures.built.names ∙ sym (insert-shallow most rank (new_item b) t shallow))
 
 pub returns-then-not-too_deep-clause-sound : goal.returns-then-not-too_deep-clause-sound
 unfolding item_of new_item apply items_of
@@ -69,13 +69,13 @@ returns-then-not-too_deep-clause-sound c =
     let most = c.max-most.result in
     let next : c.size_of.result + 1 ≡ suc (size t) = omega (arith, c.size_of.ensures) in
     let top : most ≡ max c.args.shape.most (suc (size t)) = c.max-most.ensures ∙ ap (λ (k : ℕ). max c.args.shape.most k) next in
-    let way_is : way c.path_to-path.result ≡ path t (Gap rank) = c.path_to-path.ensures ∙ ap (λ (w : List Side). w ++ path t (Gap rank)) c.root.ensures.empty in
-    let len : c.path_to-path.result.len ≡ length (path t (Gap rank)) = path_len c.path_to-path.result (path t (Gap rank)) way_is in
-    let within : c.path_to-path.result.len ≤ limit c.from.result = not_deeper (limit c.from.result) c.path_to-path.result.len c.if-not-too_deep.ensures.1 in
+    let way_is : way c.in_ok-grafted.grafted.path ≡ path t (Gap rank) = c.in_ok-grafted.ensures.path ∙ ap (λ (w : List Side). w ++ path t (Gap rank)) c.root.ensures.empty in
+    let len : c.in_ok-grafted.grafted.path.len ≡ length (path t (Gap rank)) = path_len c.in_ok-grafted.grafted.path (path t (Gap rank)) way_is in
+    let within : c.in_ok-grafted.grafted.path.len ≤ limit c.from.result = not_deeper (limit c.from.result) c.in_ok-grafted.grafted.path.len c.if-not-too_deep.ensures.1 in
     let shallow : length (path t (Gap rank)) ≤ limit most = omega (arith, within, len, ap limit c.from.ensures) in
-    let column = column_added t (tree_of c.graft.new.nodes c.in_ok-grafted.grafted) c.args.shape.most most rank b top (c.in_ok-grafted.ensures.names ∙ sym (insert-shallow most rank (new_item b) t shallow)) in
+    let column = column_added t (tree_of c.graft.new.nodes c.in_ok-grafted.grafted.link) c.args.shape.most most rank b top (c.in_ok-grafted.ensures.built.names ∙ sym (insert-shallow most rank (new_item b) t shallow)) in
     let more = live_added c0 rank b in
-    sound_after old c.graft.new.nodes c.args.shape.root c.in_ok-grafted.grafted c.args.shape.alive c.args.shape.most (c.args.shape.alive + 1) most (Add (Gap rank) b) c.requires.sound c.in_ok-grafted.ensures.is_link column
+    sound_after old c.graft.new.nodes c.args.shape.root c.in_ok-grafted.grafted.link c.args.shape.alive c.args.shape.most (c.args.shape.alive + 1) most (Add (Gap rank) b) c.requires.sound c.in_ok-grafted.ensures.built.is_link column
     (omega (arith, more, c.requires.sound.alive_is)) (omega (arith, top, c.requires.sound.few, c.requires.few))
 
 pub returns-then-not-too_deep-clause-change : goal.returns-then-not-too_deep-clause-change
@@ -88,11 +88,11 @@ returns-then-not-too_deep-clause-change c =
     let most = c.max-most.result in
     let next : c.size_of.result + 1 ≡ suc (size t) = omega (arith, c.size_of.ensures) in
     let top : most ≡ max c.args.shape.most (suc (size t)) = c.max-most.ensures ∙ ap (λ (k : ℕ). max c.args.shape.most k) next in
-    let way_is : way c.path_to-path.result ≡ path t (Gap rank) = c.path_to-path.ensures ∙ ap (λ (w : List Side). w ++ path t (Gap rank)) c.root.ensures.empty in
-    let len : c.path_to-path.result.len ≡ length (path t (Gap rank)) = path_len c.path_to-path.result (path t (Gap rank)) way_is in
-    let within : c.path_to-path.result.len ≤ limit c.from.result = not_deeper (limit c.from.result) c.path_to-path.result.len c.if-not-too_deep.ensures.1 in
+    let way_is : way c.in_ok-grafted.grafted.path ≡ path t (Gap rank) = c.in_ok-grafted.ensures.path ∙ ap (λ (w : List Side). w ++ path t (Gap rank)) c.root.ensures.empty in
+    let len : c.in_ok-grafted.grafted.path.len ≡ length (path t (Gap rank)) = path_len c.in_ok-grafted.grafted.path (path t (Gap rank)) way_is in
+    let within : c.in_ok-grafted.grafted.path.len ≤ limit c.from.result = not_deeper (limit c.from.result) c.in_ok-grafted.grafted.path.len c.if-not-too_deep.ensures.1 in
     let shallow : length (path t (Gap rank)) ≤ limit most = omega (arith, within, len, ap limit c.from.ensures) in
-    change_alone c0 rank c.code.result b (way c.path_to-path.result) c.in_ok-change.change c.requires.is_rank (omega (arith, shallow, ap limit top)) way_is c.code.ensures.spells c.in_ok-change.ensures
+    change_alone c0 rank c.code.result b (way c.in_ok-grafted.grafted.path) c.in_ok-change.change c.requires.is_rank (omega (arith, shallow, ap limit top)) way_is c.code.ensures.spells c.in_ok-change.ensures
 
 pub balance_tall_part-requires-clause-is_rank : goal.balance_tall_part-requires-clause-is_rank
 unfolding item_of new_item
@@ -102,7 +102,7 @@ balance_tall_part-requires-clause-is_rank c =
     let rank = c.args.rank in
     let b = c.args.body in
     let c0 = column_of old c.args.shape.root c.args.shape.most in
-    omega (arith, ap (λ (u : Tree (Item Body)). size u) c.in_ok-grafted.ensures.names, size-graft rank (new_item b) t, c.requires.is_rank)
+    omega (arith, ap (λ (u : Tree (Item Body)). size u) c.in_ok-grafted.ensures.built.names, size-graft rank (new_item b) t, c.requires.is_rank)
 
 pub balance_tall_part-requires-clause-short : goal.balance_tall_part-requires-clause-short
 unfolding item_of new_item
@@ -112,7 +112,7 @@ balance_tall_part-requires-clause-short c =
     let rank = c.args.rank in
     let b = c.args.body in
     let c0 = column_of old c.args.shape.root c.args.shape.most in
-    omega (arith, ap (λ (u : Tree (Item Body)). height u) c.in_ok-grafted.ensures.names, graft-low rank (new_item b) t (sound_low old c.args.shape.root c.args.shape.alive c.args.shape.most false c.requires.sound))
+    omega (arith, ap (λ (u : Tree (Item Body)). height u) c.in_ok-grafted.ensures.built.names, graft-low rank (new_item b) t (sound_low old c.args.shape.root c.args.shape.alive c.args.shape.most false c.requires.sound))
 
 pub balance_tall_part-requires-clause-few : goal.balance_tall_part-requires-clause-few
 unfolding item_of new_item
@@ -125,7 +125,7 @@ balance_tall_part-requires-clause-few c =
     let most = c.max-most.result in
     let next : c.size_of.result + 1 ≡ suc (size t) = omega (arith, c.size_of.ensures) in
     let top : most ≡ max c.args.shape.most (suc (size t)) = c.max-most.ensures ∙ ap (λ (k : ℕ). max c.args.shape.most k) next in
-    omega (arith, ap (λ (u : Tree (Item Body)). size u) c.in_ok-grafted.ensures.names, size-graft rank (new_item b) t, top, c.from-2.ensures)
+    omega (arith, ap (λ (u : Tree (Item Body)). size u) c.in_ok-grafted.ensures.built.names, size-graft rank (new_item b) t, top, c.from-2.ensures)
 
 pub balance_tall_part-requires-clause-deep : goal.balance_tall_part-requires-clause-deep
 unfolding item_of new_item
@@ -138,11 +138,11 @@ balance_tall_part-requires-clause-deep c =
     let most = c.max-most.result in
     let next : c.size_of.result + 1 ≡ suc (size t) = omega (arith, c.size_of.ensures) in
     let top : most ≡ max c.args.shape.most (suc (size t)) = c.max-most.ensures ∙ ap (λ (k : ℕ). max c.args.shape.most k) next in
-    let way_is : way c.path_to-path.result ≡ path t (Gap rank) = c.path_to-path.ensures ∙ ap (λ (w : List Side). w ++ path t (Gap rank)) c.root.ensures.empty in
-    let len : c.path_to-path.result.len ≡ length (path t (Gap rank)) = path_len c.path_to-path.result (path t (Gap rank)) way_is in
-    let g = tree_of c.graft.new.nodes c.in_ok-grafted.grafted in
-    let deeper : limit c.from.result < c.path_to-path.result.len = c.if-not-too_deep.ensures.0 refl in
-    let long : length (path g (Found rank)) ≡ length (path t (Gap rank)) = ap (λ (u : Tree (Item Body)). length (path u (Found rank))) c.in_ok-grafted.ensures.names ∙ ap length (graft-new rank (new_item b) t c.requires.is_rank) in
+    let way_is : way c.in_ok-grafted.grafted.path ≡ path t (Gap rank) = c.in_ok-grafted.ensures.path ∙ ap (λ (w : List Side). w ++ path t (Gap rank)) c.root.ensures.empty in
+    let len : c.in_ok-grafted.grafted.path.len ≡ length (path t (Gap rank)) = path_len c.in_ok-grafted.grafted.path (path t (Gap rank)) way_is in
+    let g = tree_of c.graft.new.nodes c.in_ok-grafted.grafted.link in
+    let deeper : limit c.from.result < c.in_ok-grafted.grafted.path.len = c.if-not-too_deep.ensures.0 refl in
+    let long : length (path g (Found rank)) ≡ length (path t (Gap rank)) = ap (λ (u : Tree (Item Body)). length (path u (Found rank))) c.in_ok-grafted.ensures.built.names ∙ ap length (graft-new rank (new_item b) t c.requires.is_rank) in
     let deep : limit most < length (path g (Found rank)) = omega (arith, deeper, len, long, ap limit c.from.ensures) in
     omega (arith, deep, ap limit c.from-2.ensures)
 
@@ -157,16 +157,16 @@ of-requires c =
     let most = c.max-most.result in
     let next : c.size_of.result + 1 ≡ suc (size t) = omega (arith, c.size_of.ensures) in
     let top : most ≡ max c.args.shape.most (suc (size t)) = c.max-most.ensures ∙ ap (λ (k : ℕ). max c.args.shape.most k) next in
-    let way_is : way c.path_to-path.result ≡ path t (Gap rank) = c.path_to-path.ensures ∙ ap (λ (w : List Side). w ++ path t (Gap rank)) c.root.ensures.empty in
-    let len : c.path_to-path.result.len ≡ length (path t (Gap rank)) = path_len c.path_to-path.result (path t (Gap rank)) way_is in
-    let g = tree_of c.graft.new.nodes c.in_ok-grafted.grafted in
-    let deeper : limit c.from.result < c.path_to-path.result.len = c.if-not-too_deep.ensures.0 refl in
-    let long : length (path g (Found rank)) ≡ length (path t (Gap rank)) = ap (λ (u : Tree (Item Body)). length (path u (Found rank))) c.in_ok-grafted.ensures.names ∙ ap length (graft-new rank (new_item b) t c.requires.is_rank) in
+    let way_is : way c.in_ok-grafted.grafted.path ≡ path t (Gap rank) = c.in_ok-grafted.ensures.path ∙ ap (λ (w : List Side). w ++ path t (Gap rank)) c.root.ensures.empty in
+    let len : c.in_ok-grafted.grafted.path.len ≡ length (path t (Gap rank)) = path_len c.in_ok-grafted.grafted.path (path t (Gap rank)) way_is in
+    let g = tree_of c.graft.new.nodes c.in_ok-grafted.grafted.link in
+    let deeper : limit c.from.result < c.in_ok-grafted.grafted.path.len = c.if-not-too_deep.ensures.0 refl in
+    let long : length (path g (Found rank)) ≡ length (path t (Gap rank)) = ap (λ (u : Tree (Item Body)). length (path u (Found rank))) c.in_ok-grafted.ensures.built.names ∙ ap length (graft-new rank (new_item b) t c.requires.is_rank) in
     let deep : limit most < length (path g (Found rank)) = omega (arith, deeper, len, long, ap limit c.from.ensures) in
     let real : limit (max c.args.shape.most (suc (size t))) < length (path g (Found rank)) = omega (arith, deep, ap limit top) in
     let added : c.push.new.self.items ≡ c.in_ok-rebuilt.rebuilt.added ∷ [] = c.in_ok-push.ensures.items ∙ ap (λ (xs : List ℕ). xs ++ c.in_ok-rebuilt.rebuilt.added ∷ []) c.new-added.ensures.items in
     let sum = same_sum c.in_ok-rebuilt.rebuilt.moved.items c.in_ok-rebuilt.rebuilt.moved.items c.new.result.items [] c.push.new.self.items (c.in_ok-rebuilt.rebuilt.added ∷ []) refl c.new.ensures.items added
-    ∙ change_settled c0 g rank c.in_ok-rebuilt.rebuilt.added b c.in_ok-rebuilt.rebuilt.moved.items c.in_ok-grafted.ensures.names c.requires.is_rank real c.in_ok-rebuilt.ensures.codes in
+    ∙ change_settled c0 g rank c.in_ok-rebuilt.rebuilt.added b c.in_ok-rebuilt.rebuilt.moved.items c.in_ok-grafted.ensures.built.names c.requires.is_rank real c.in_ok-rebuilt.ensures.codes in
     let s : Sum = record { moved = c.in_ok-rebuilt.rebuilt.moved.items; dropped = c.new.result.items; added = c.push.new.self.items } in
     normal_after old c.args.shape.root c.args.shape.alive c.args.shape.most (Add (Gap rank) b) s c.requires.sound (omega (arith, c.requires.sound.few, c.requires.few)) sum
 
@@ -181,13 +181,13 @@ returns-clause-column c =
     let most = c.max-most.result in
     let next : c.size_of.result + 1 ≡ suc (size t) = omega (arith, c.size_of.ensures) in
     let top : most ≡ max c.args.shape.most (suc (size t)) = c.max-most.ensures ∙ ap (λ (k : ℕ). max c.args.shape.most k) next in
-    let way_is : way c.path_to-path.result ≡ path t (Gap rank) = c.path_to-path.ensures ∙ ap (λ (w : List Side). w ++ path t (Gap rank)) c.root.ensures.empty in
-    let len : c.path_to-path.result.len ≡ length (path t (Gap rank)) = path_len c.path_to-path.result (path t (Gap rank)) way_is in
-    let g = tree_of c.graft.new.nodes c.in_ok-grafted.grafted in
-    let deeper : limit c.from.result < c.path_to-path.result.len = c.if-not-too_deep.ensures.0 refl in
-    let long : length (path g (Found rank)) ≡ length (path t (Gap rank)) = ap (λ (u : Tree (Item Body)). length (path u (Found rank))) c.in_ok-grafted.ensures.names ∙ ap length (graft-new rank (new_item b) t c.requires.is_rank) in
+    let way_is : way c.in_ok-grafted.grafted.path ≡ path t (Gap rank) = c.in_ok-grafted.ensures.path ∙ ap (λ (w : List Side). w ++ path t (Gap rank)) c.root.ensures.empty in
+    let len : c.in_ok-grafted.grafted.path.len ≡ length (path t (Gap rank)) = path_len c.in_ok-grafted.grafted.path (path t (Gap rank)) way_is in
+    let g = tree_of c.graft.new.nodes c.in_ok-grafted.grafted.link in
+    let deeper : limit c.from.result < c.in_ok-grafted.grafted.path.len = c.if-not-too_deep.ensures.0 refl in
+    let long : length (path g (Found rank)) ≡ length (path t (Gap rank)) = ap (λ (u : Tree (Item Body)). length (path u (Found rank))) c.in_ok-grafted.ensures.built.names ∙ ap length (graft-new rank (new_item b) t c.requires.is_rank) in
     let deep : limit most < length (path g (Found rank)) = omega (arith, deeper, len, long, ap limit c.from.ensures) in
-    column_added t (tree_of c.balance_tall_part.new.nodes c.in_ok-rebuilt.rebuilt.root) c.args.shape.most most rank b top (c.in_ok-rebuilt.ensures.built.names ∙ sym (insert-tall most rank (new_item b) t g c.in_ok-grafted.ensures.names c.requires.is_rank deep))
+    column_added t (tree_of c.balance_tall_part.new.nodes c.in_ok-rebuilt.rebuilt.root) c.args.shape.most most rank b top (c.in_ok-rebuilt.ensures.built.names ∙ sym (insert-tall most rank (new_item b) t g c.in_ok-grafted.ensures.built.names c.requires.is_rank deep))
 
 pub returns-clause-sound : goal.returns-clause-sound
 unfolding item_of new_item apply items_of
@@ -200,13 +200,13 @@ returns-clause-sound c =
     let most = c.max-most.result in
     let next : c.size_of.result + 1 ≡ suc (size t) = omega (arith, c.size_of.ensures) in
     let top : most ≡ max c.args.shape.most (suc (size t)) = c.max-most.ensures ∙ ap (λ (k : ℕ). max c.args.shape.most k) next in
-    let way_is : way c.path_to-path.result ≡ path t (Gap rank) = c.path_to-path.ensures ∙ ap (λ (w : List Side). w ++ path t (Gap rank)) c.root.ensures.empty in
-    let len : c.path_to-path.result.len ≡ length (path t (Gap rank)) = path_len c.path_to-path.result (path t (Gap rank)) way_is in
-    let g = tree_of c.graft.new.nodes c.in_ok-grafted.grafted in
-    let deeper : limit c.from.result < c.path_to-path.result.len = c.if-not-too_deep.ensures.0 refl in
-    let long : length (path g (Found rank)) ≡ length (path t (Gap rank)) = ap (λ (u : Tree (Item Body)). length (path u (Found rank))) c.in_ok-grafted.ensures.names ∙ ap length (graft-new rank (new_item b) t c.requires.is_rank) in
+    let way_is : way c.in_ok-grafted.grafted.path ≡ path t (Gap rank) = c.in_ok-grafted.ensures.path ∙ ap (λ (w : List Side). w ++ path t (Gap rank)) c.root.ensures.empty in
+    let len : c.in_ok-grafted.grafted.path.len ≡ length (path t (Gap rank)) = path_len c.in_ok-grafted.grafted.path (path t (Gap rank)) way_is in
+    let g = tree_of c.graft.new.nodes c.in_ok-grafted.grafted.link in
+    let deeper : limit c.from.result < c.in_ok-grafted.grafted.path.len = c.if-not-too_deep.ensures.0 refl in
+    let long : length (path g (Found rank)) ≡ length (path t (Gap rank)) = ap (λ (u : Tree (Item Body)). length (path u (Found rank))) c.in_ok-grafted.ensures.built.names ∙ ap length (graft-new rank (new_item b) t c.requires.is_rank) in
     let deep : limit most < length (path g (Found rank)) = omega (arith, deeper, len, long, ap limit c.from.ensures) in
-    let column = column_added t (tree_of c.balance_tall_part.new.nodes c.in_ok-rebuilt.rebuilt.root) c.args.shape.most most rank b top (c.in_ok-rebuilt.ensures.built.names ∙ sym (insert-tall most rank (new_item b) t g c.in_ok-grafted.ensures.names c.requires.is_rank deep)) in
+    let column = column_added t (tree_of c.balance_tall_part.new.nodes c.in_ok-rebuilt.rebuilt.root) c.args.shape.most most rank b top (c.in_ok-rebuilt.ensures.built.names ∙ sym (insert-tall most rank (new_item b) t g c.in_ok-grafted.ensures.built.names c.requires.is_rank deep)) in
     let more = live_added c0 rank b in
     sound_after old c.balance_tall_part.new.nodes c.args.shape.root c.in_ok-rebuilt.rebuilt.root c.args.shape.alive c.args.shape.most (c.args.shape.alive + 1) most (Add (Gap rank) b) c.requires.sound c.in_ok-rebuilt.ensures.built.is_link column
     (omega (arith, more, c.requires.sound.alive_is)) (omega (arith, top, c.requires.sound.few, c.requires.few))
@@ -222,14 +222,14 @@ returns-clause-change c =
     let most = c.max-most.result in
     let next : c.size_of.result + 1 ≡ suc (size t) = omega (arith, c.size_of.ensures) in
     let top : most ≡ max c.args.shape.most (suc (size t)) = c.max-most.ensures ∙ ap (λ (k : ℕ). max c.args.shape.most k) next in
-    let way_is : way c.path_to-path.result ≡ path t (Gap rank) = c.path_to-path.ensures ∙ ap (λ (w : List Side). w ++ path t (Gap rank)) c.root.ensures.empty in
-    let len : c.path_to-path.result.len ≡ length (path t (Gap rank)) = path_len c.path_to-path.result (path t (Gap rank)) way_is in
-    let g = tree_of c.graft.new.nodes c.in_ok-grafted.grafted in
-    let deeper : limit c.from.result < c.path_to-path.result.len = c.if-not-too_deep.ensures.0 refl in
-    let long : length (path g (Found rank)) ≡ length (path t (Gap rank)) = ap (λ (u : Tree (Item Body)). length (path u (Found rank))) c.in_ok-grafted.ensures.names ∙ ap length (graft-new rank (new_item b) t c.requires.is_rank) in
+    let way_is : way c.in_ok-grafted.grafted.path ≡ path t (Gap rank) = c.in_ok-grafted.ensures.path ∙ ap (λ (w : List Side). w ++ path t (Gap rank)) c.root.ensures.empty in
+    let len : c.in_ok-grafted.grafted.path.len ≡ length (path t (Gap rank)) = path_len c.in_ok-grafted.grafted.path (path t (Gap rank)) way_is in
+    let g = tree_of c.graft.new.nodes c.in_ok-grafted.grafted.link in
+    let deeper : limit c.from.result < c.in_ok-grafted.grafted.path.len = c.if-not-too_deep.ensures.0 refl in
+    let long : length (path g (Found rank)) ≡ length (path t (Gap rank)) = ap (λ (u : Tree (Item Body)). length (path u (Found rank))) c.in_ok-grafted.ensures.built.names ∙ ap length (graft-new rank (new_item b) t c.requires.is_rank) in
     let deep : limit most < length (path g (Found rank)) = omega (arith, deeper, len, long, ap limit c.from.ensures) in
     let real : limit (max c.args.shape.most (suc (size t))) < length (path g (Found rank)) = omega (arith, deep, ap limit top) in
     let added : c.push.new.self.items ≡ c.in_ok-rebuilt.rebuilt.added ∷ [] = c.in_ok-push.ensures.items ∙ ap (λ (xs : List ℕ). xs ++ c.in_ok-rebuilt.rebuilt.added ∷ []) c.new-added.ensures.items in
     let sum = same_sum c.in_ok-rebuilt.rebuilt.moved.items c.in_ok-rebuilt.rebuilt.moved.items c.new.result.items [] c.push.new.self.items (c.in_ok-rebuilt.rebuilt.added ∷ []) refl c.new.ensures.items added
-    ∙ change_settled c0 g rank c.in_ok-rebuilt.rebuilt.added b c.in_ok-rebuilt.rebuilt.moved.items c.in_ok-grafted.ensures.names c.requires.is_rank real c.in_ok-rebuilt.ensures.codes in
+    ∙ change_settled c0 g rank c.in_ok-rebuilt.rebuilt.added b c.in_ok-rebuilt.rebuilt.moved.items c.in_ok-grafted.ensures.built.names c.requires.is_rank real c.in_ok-rebuilt.ensures.codes in
     c.of.ensures ∙ sum

@@ -9,8 +9,11 @@ use crate::building::{add_node, size_of};
 use crate::nodes::Node;
 use mope_base::OutOfMemory;
 
-/// An arena may have three nodes for each item and this many more. So a copy costs half of the changes that filled the
-/// arena since the last one, and trees of few items aren't copied all the time.
+/// How many nodes an arena may have for each item. So a copy has a quarter of the nodes that changes have put there since the
+/// last one.
+const NODES_PER_ITEM: usize = 5;
+
+/// How many more it may have, so that trees of few items aren't copied all the time.
 const SPARE: usize = 64;
 
 /// The tree of a link of one arena in another.
@@ -38,7 +41,7 @@ pub fn compact(nodes: &mut Arena, root: Option<u32>) -> Result<Option<u32>, OutO
     ensures link { IfOk result (λ link. IsLink nodes.new link) }
     ensures same { IfOk result (λ link. tree_of nodes.new link ≡ tree_of nodes.old root) }
 {
-    if nodes.len() <= 3 * size_of(nodes, root) as usize + SPARE {
+    if nodes.len() <= NODES_PER_ITEM * size_of(nodes, root) as usize + SPARE {
         return Ok(root);
     }
     let mut fresh = nodes.fresh();

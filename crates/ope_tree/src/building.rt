@@ -59,8 +59,9 @@ pub fn join(
     Ok(Some(at))
 }
 
-/// The balanced tree of these items; 2^32 items are want of memory. It is built from its leaves up, since a node stands after its children; so it has no use for
-/// a list of links in which a right child stands after its parent, as `scapegoat::balanced_links` makes.
+/// The balanced tree of these items; 2^32 items are want of memory. It is built from its leaves up, since a node stands after
+/// its children; so it has no use for a list of links in which a right child stands after its parent, as
+/// `scapegoat::balanced_links` makes.
 pub fn balance(nodes: &mut Arena, entries: &[Entry]) -> Result<Option<u32>, OutOfMemory>
     ensures { IfOk result (λ link. IsBuilt nodes.old nodes.new link (balanced (items_of_entries entries.now))) }
 {

@@ -1,5 +1,5 @@
 -- Nodes that fit where those fit that they are made of: with another tree on one side, another item, or in another arena.
-use Rattle.std.proofs.Common.{◌≡◌, ℕ, suc, ◌+◌, ◌<◌, List, Option, Some, ap, ◌∙◌, sym, arith}
+use Rattle.std.proofs.Common.{◌≡◌, ℕ, suc, ◌+◌, List, Option, ap, ◌∙◌, sym, arith}
 use Rattle.mope_base.specs.declared.body.Body.{Body}
 use Rattle.tree_model.specs.Trees.{Tree, size}
 use Rattle.tree_model.specs.Items.{Item}

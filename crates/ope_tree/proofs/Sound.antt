@@ -1,7 +1,7 @@
 -- What is true of the fields of every tree.
 use Rattle.std.proofs.Common.{◌≡◌, ℕ, ◌^◌, ◌<◌, ◌≤◌, Bool, false, List, [], ◌∷◌, Option, None, refl, ap, ◌∙◌, sym, subst, arith}
-use Rattle.tree_model.specs.Trees.{Tree, inorder, height}
-use Rattle.tree_model.specs.Items.{Item, live, live_items}
+use Rattle.tree_model.specs.Trees.{inorder, height}
+use Rattle.tree_model.specs.Items.{live, live_items}
 use Rattle.tree_model.specs.Balance.{limit}
 use Rattle.tree_model.specs.Columns.{Column, Operation, empty_column, items_of, apply, apply_all}
 use Rattle.tree_model.specs.ColumnLaws.{IsKept}

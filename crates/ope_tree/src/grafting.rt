@@ -15,7 +15,7 @@ use mope_base::OutOfMemory;
 use path_code::{Path, child};
 use tree_model::Side;
 
-/// A tree with a new item, and the path to that.
+/// A tree with a new item, and the path to it.
 #[derive(Clone, Copy)]
 pub struct Grafted {
     pub link: Option<u32>,

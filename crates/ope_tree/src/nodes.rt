@@ -8,12 +8,14 @@ pub struct Entry {
     pub count: u32,
 }
 
-/// A node, with the numbers of its children, and how many items its tree has and how many of them stand before its own.
+/// A node, with the numbers of its children.
 #[derive(Clone, Copy)]
 pub struct Node {
     pub left: Option<u32>,
     pub right: Option<u32>,
+    /// How many items its tree has.
     pub size: u32,
+    /// How many of them stand before its own: those of its left tree.
     pub before: u32,
     pub entry: Entry,
 }

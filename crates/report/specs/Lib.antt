@@ -1,2 +1,4 @@
 pub mod WholeText
 pub mod Laws
+pub mod ViewText
+pub mod SummaryText

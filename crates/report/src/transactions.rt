@@ -66,7 +66,7 @@ fn push_end(text: &mut Vec<u8>, w: &Workload, end: End) -> Result<(), OutOfMemor
 }
 
 /// Appends a word and the name of a table, as it was declared.
-fn push_table(
+pub(crate) fn push_table(
     text: &mut Vec<u8>,
     word: &[u8],
     w: &Workload,

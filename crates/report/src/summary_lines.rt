@@ -80,6 +80,7 @@ fn count_ended(txns: &[DoneTxn], name: &str) -> u64
 }
 
 /// The name of the line that counts the transactions that ended like this.
+#[tactic(auto, unfolding(crate::specs::SummaryText::end_name))]
 fn end_name(end: End) -> &'static str
     ensures { result.now ≡ end_name end }
 {

@@ -32,6 +32,7 @@ pub fn view_text(
 }
 
 /// Appends the line of the mode.
+#[tactic(auto, unfolding(crate::specs::ViewText::mode_line, workload::specs::Report::line))]
 fn push_mode(text: &mut Vec<u8>, mode: Mode) -> Result<(), OutOfMemory>
     ensures { OnOk result (text.new.items ≡ text.old.items ++ mode_line mode) }
 {

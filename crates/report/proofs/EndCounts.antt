@@ -29,7 +29,7 @@ more_ended name txns i count more whole t h at e so_far =
     let rest : List DoneTxn = drop (i + 1) txns in
     let split : drop i txns ≡ t ∷ rest = drop_more txns i t h ∙ ap (λ (x : DoneTxn). x ∷ rest) (sym at) in
     let all : ended_so name (drop i txns) ≡ more + ended_so name rest =
-        ap (λ (ts : List DoneTxn). ended_so name ts) split ∙ first_ended name t rest ∙ ap (λ n. n + ended_so name rest) (sym e) in
+    ap (λ (ts : List DoneTxn). ended_so name ts) split ∙ first_ended name t rest ∙ ap (λ n. n + ended_so name rest) (sym e) in
     added count more (ended_so name rest) (ended_so name (drop i txns)) whole all so_far
 
 none_ended : (name : List ℕ) → ended_so name [] ≡ 0

@@ -26,11 +26,7 @@ pub(crate) fn push_changes(
 }
 
 /// Appends the lines of a column, unless all its codes stayed.
-fn push_change(
-    text: &mut Vec<u8>,
-    w: &Workload,
-    change: &ColumnChange,
-) -> Result<(), OutOfMemory>
+fn push_change(text: &mut Vec<u8>, w: &Workload, change: &ColumnChange) -> Result<(), OutOfMemory>
     ensures { OnOk result (text.new.items ≡ text.old.items ++ change_lines w.now change.now) }
 {
     if change.summary.is_empty() {

@@ -13,10 +13,7 @@ use proxy::Exchange;
 use walk_proto::{Reply, Request, write_reply, write_request};
 
 /// Appends the lines of each session, numbered from 1.
-pub(crate) fn push_sessions(
-    text: &mut Vec<u8>,
-    logs: &[Items<Exchange>],
-) -> Result<(), OutOfMemory>
+pub(crate) fn push_sessions(text: &mut Vec<u8>, logs: &[Items<Exchange>]) -> Result<(), OutOfMemory>
     requires { Each (Each IsWritable) logs.now }
     ensures { OnOk result (text.new.items ≡ text.old.items ++ numbered_from session_lines 1 logs.now) }
 {

@@ -25,12 +25,7 @@ pub(crate) fn push_turns(
 }
 
 /// Appends the line of a turn and those of the columns that it changed.
-fn push_turn(
-    text: &mut Vec<u8>,
-    w: &Workload,
-    number: u64,
-    turn: &Turn,
-) -> Result<(), OutOfMemory>
+fn push_turn(text: &mut Vec<u8>, w: &Workload, number: u64, turn: &Turn) -> Result<(), OutOfMemory>
     ensures { OnOk result (text.new.items ≡ text.old.items ++ turn_lines w.now number turn.now) }
 {
     push_turn_line(text, w, number, turn)?;

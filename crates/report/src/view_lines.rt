@@ -16,11 +16,7 @@ use workload::Workload;
 /// The text of a view of a run of a workload: the mode, the messages of each session as hexadecimal digits, and the turns, under
 /// each the codes of the columns that it changed. Each message must be one that some bytes give. The name of a table or a column
 /// that isn't declared is empty.
-pub fn view_text(
-    alloc: Global,
-    w: &Workload,
-    view: &View<Turn>,
-) -> Result<Items<u8>, OutOfMemory>
+pub fn view_text(alloc: Global, w: &Workload, view: &View<Turn>) -> Result<Items<u8>, OutOfMemory>
     requires { Each (Each IsWritable) view.now.logs }
     ensures { IfOk result (λ text. text ≡ view_text_of w.now view.now) }
 {

@@ -15,6 +15,7 @@ use workload::{Decl, DoneTxn, End, Workload};
 
 /// The one table of the examples, and its one column.
 const T: TableNo = TableNo(0);
+
 const A: ColNo = ColNo(0);
 
 /// The value 5 under the nonce 0 and the zero key.
@@ -222,9 +223,21 @@ fn each_other_turn(rt: HostRuntime) -> Result<(), Fail> {
     };
     let turns = vec![in alloc;
         commit(alloc, 5, appended(alloc, 5)?)?,
-        still(alloc, TurnKind::Conflict { table: T, number: 5 }),
+        still(
+            alloc,
+            TurnKind::Conflict {
+                table: T,
+                number: 5
+            }
+        ),
         still(alloc, install),
-        still(alloc, TurnKind::Stale { table: T, number: 6 }),
+        still(
+            alloc,
+            TurnKind::Stale {
+                table: T,
+                number: 6
+            }
+        ),
         commit(alloc, 7, first_of_two_dropped(alloc)?)?,
         commit(alloc, 8, Summary::new(alloc))?,
     ]?;

@@ -1,4 +1,8 @@
 //! The worked examples of views and of a summary, written down here.
+ghost use Rattle.std.specs.Prelude.{◌≡◌, [], ◌∷◌, IfOk, OnOk};
+ghost use Rattle.mope_base.specs.Lists.{Each};
+ghost use Rattle.walk_proto.specs.Rules.{IsReply, IsRequest};
+ghost use Rattle.report.specs.ViewText.{IsWritable};
 
 use crate::{summary_text, view_text};
 use mope_base::{Body, ColNo, Items, Mode, OutOfMemory, SessionNo, TableNo};
@@ -24,7 +28,10 @@ const FIVE: Body = Body {
     masked: 0x903d_f1a0_ade0_b873,
 };
 
-fn one<X: Drop>(alloc: Global, x: X) -> Result<Items<X>, OutOfMemory> {
+/// A list of one element.
+fn one<X: Drop>(alloc: Global, x: X) -> Result<Items<X>, OutOfMemory>
+    ensures { IfOk result (λ items. items ≡ x ∷ []) }
+{
     let mut items = Items::new(alloc);
     items.push(x)?;
     Ok(items)
@@ -47,18 +54,29 @@ fn table_t(alloc: Global) -> Result<Workload, OutOfMemory> {
     })
 }
 
-fn exchange(request: Request, reply: Reply) -> Exchange {
-    Exchange { request, reply }
+/// One exchange more, of messages that some bytes give.
+fn push(log: &mut Vec<Exchange>, request: Request, reply: Reply) -> Result<(), OutOfMemory>
+    requires request { IsRequest request }
+    requires reply { IsReply reply }
+    requires before { Each IsWritable log.old.items }
+    ensures { OnOk result (Each IsWritable log.new.items) }
+{
+    log.push(Exchange { request, reply })?;
+    Ok(())
 }
 
-fn start() -> Request {
+fn start() -> Request
+    ensures { IsRequest result }
+{
     Request::WalkStart {
         table: T,
         column: A,
     }
 }
 
-fn ended(how: How, number: u64) -> Reply {
+fn ended(how: How, number: u64) -> Reply
+    ensures { IsReply result }
+{
     Reply::Ended {
         how,
         table: 0,
@@ -67,21 +85,25 @@ fn ended(how: How, number: u64) -> Reply {
 }
 
 /// `INSERT INTO t VALUES (5)` in an empty table.
-fn insert_five(alloc: Global) -> Result<Vec<Exchange>, OutOfMemory> {
+fn insert_five(alloc: Global, log: &mut Vec<Exchange>) -> Result<(), OutOfMemory>
+    requires { Each IsWritable log.old.items }
+    ensures { OnOk result (Each IsWritable log.new.items) }
+{
     let insert = Request::Insert {
         table: T,
         bodies: one(alloc, FIVE)?,
     };
-    Ok(vec![in alloc;
-        exchange(Request::Begin, ended(How::Began, 0)),
-        exchange(start(), Reply::Placed),
-        exchange(insert, Reply::Count(1)),
-        exchange(Request::End { commit: true }, ended(How::Committed, 1)),
-    ]?)
+    push(log, Request::Begin, ended(How::Began, 0))?;
+    push(log, start(), Reply::Placed)?;
+    push(log, insert, Reply::Count(1))?;
+    push(log, Request::End { commit: true }, ended(How::Committed, 1))
 }
 
 /// `SELECT COUNT(*) FROM t WHERE a BETWEEN 1 AND 9` after it.
-fn count_between(alloc: Global) -> Result<Vec<Exchange>, OutOfMemory> {
+fn count_between(alloc: Global, log: &mut Vec<Exchange>) -> Result<(), OutOfMemory>
+    requires { Each IsWritable log.old.items }
+    ensures { OnOk result (Each IsWritable log.new.items) }
+{
     let query = Request::Query(Asked {
         table: T,
         verb: 1,
@@ -92,15 +114,23 @@ fn count_between(alloc: Global) -> Result<Vec<Exchange>, OutOfMemory> {
         columns: Items::new(alloc),
         conds: one(alloc, (0, 5))?,
     });
-    Ok(vec![in alloc;
-        exchange(Request::Begin, ended(How::Began, 1)),
-        exchange(start(), Reply::Node(FIVE)),
-        exchange(Request::Go { side: Side::Left }, Reply::Placed),
-        exchange(start(), Reply::Node(FIVE)),
-        exchange(Request::Go { side: Side::Right }, Reply::Placed),
-        exchange(query, Reply::Count(1)),
-        exchange(Request::End { commit: true }, ended(How::Closed, 1)),
-    ]?)
+    push(log, Request::Begin, ended(How::Began, 1))?;
+    push(log, start(), Reply::Node(FIVE))?;
+    push(log, Request::Go { side: Side::Left }, Reply::Placed)?;
+    push(log, start(), Reply::Node(FIVE))?;
+    push(log, Request::Go { side: Side::Right }, Reply::Placed)?;
+    push(log, query, Reply::Count(1))?;
+    push(log, Request::End { commit: true }, ended(How::Closed, 1))
+}
+
+/// The exchanges of the example.
+fn example_log(alloc: Global) -> Result<Items<Exchange>, OutOfMemory>
+    ensures { IfOk result (λ log. Each IsWritable log) }
+{
+    let mut log = Vec::new(alloc);
+    insert_five(alloc, &mut log)?;
+    count_between(alloc, &mut log)?;
+    Ok(Items::from_vec(log))
 }
 
 /// A turn of session 1 that changed nothing.
@@ -147,25 +177,32 @@ fn appended(alloc: Global, count: u32) -> Result<Summary, OutOfMemory> {
     Summary::of_change(alloc, &append(&mut tree)?)
 }
 
-/// The codes that change where the first of two items loses its row, and with it its place.
-fn first_of_two_dropped(alloc: Global) -> Result<Summary, OutOfMemory> {
-    let mut tree = Tree::new(alloc);
-    append(&mut tree)?;
-    append(&mut tree)?;
-    let Some((_, count)) = tree.item(0) else {
+/// One row fewer at the first item, which goes. A tree in which it has none ends the test.
+fn drop_first(tree: &mut Tree) -> Result<Change, OutOfMemory> {
+    if tree.len() == 0 {
+        return Err(OutOfMemory);
+    }
+    let Some((_body, count)) = tree.item(0) else {
         return Err(OutOfMemory);
     };
     if count == 0 {
         return Err(OutOfMemory);
     }
-    Summary::of_change(alloc, &tree.drop_one(0, Mode::SameTime)?)
+    tree.drop_one(0, Mode::SameTime)
+}
+
+/// The codes that change where the first of two items is dropped.
+fn first_of_two_dropped(alloc: Global) -> Result<Summary, OutOfMemory> {
+    let mut tree = Tree::new(alloc);
+    append(&mut tree)?;
+    append(&mut tree)?;
+    Summary::of_change(alloc, &drop_first(&mut tree)?)
 }
 
 #[test]
 fn example_view(rt: HostRuntime) -> Result<(), Fail> {
     let alloc = rt.alloc();
-    let mut log = insert_five(alloc)?;
-    log.append(&mut count_between(alloc)?)?;
+    let log = example_log(alloc)?;
     let turns = vec![in alloc;
         still(alloc, TurnKind::Began(0)),
         commit(alloc, 1, appended(alloc, 1)?)?,
@@ -173,7 +210,7 @@ fn example_view(rt: HostRuntime) -> Result<(), Fail> {
     ]?;
     let view = View {
         mode: Mode::Ordinary,
-        logs: one(alloc, Items::from_vec(log))?,
+        logs: one(alloc, log)?,
         turns: Items::from_vec(turns),
     };
     let expected = b"view ordinary
@@ -211,7 +248,7 @@ turn 3 session 1 begin 1
     Ok(())
 }
 
-// Two sessions without messages. Of five ascending items the fifth stands too deep, and the tree is balanced; of two the first
+// No sessions. Of five ascending items the fifth stands too deep, and the tree is balanced; of two the first
 // is dropped, and the second moves up; a column of which all codes stay isn't printed.
 #[test]
 fn each_other_turn(rt: HostRuntime) -> Result<(), Fail> {
@@ -241,15 +278,12 @@ fn each_other_turn(rt: HostRuntime) -> Result<(), Fail> {
         commit(alloc, 7, first_of_two_dropped(alloc)?)?,
         commit(alloc, 8, Summary::new(alloc))?,
     ]?;
-    let logs = vec![in alloc; Items::new(alloc), Items::new(alloc)]?;
     let view = View {
         mode: Mode::SameTime,
-        logs: Items::from_vec(logs),
+        logs: Items::new(alloc),
         turns: Items::from_vec(turns),
     };
     let expected = b"view same-time
-session 1
-session 2
 turn 1 session 1 commit 5
 column t a
 map 8000000000000000 2000000000000000

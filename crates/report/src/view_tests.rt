@@ -199,19 +199,53 @@ fn first_of_two_dropped(alloc: Global) -> Result<Summary, OutOfMemory> {
     Summary::of_change(alloc, &drop_first(&mut tree)?)
 }
 
+/// The turns of the example.
+fn example_turns(alloc: Global) -> Result<Items<Turn>, OutOfMemory> {
+    let mut turns = Items::new(alloc);
+    turns.push(still(alloc, TurnKind::Began(0)))?;
+    turns.push(commit(alloc, 1, appended(alloc, 1)?)?)?;
+    turns.push(still(alloc, TurnKind::Began(1)))?;
+    Ok(turns)
+}
+
+/// The other turns: of five ascending items the fifth stands too deep, and the tree is balanced; of two the first is dropped, and
+/// the second moves up.
+fn other_turns(alloc: Global) -> Result<Items<Turn>, OutOfMemory> {
+    let install = TurnKind::Installed {
+        number: 6,
+        table: T,
+        column: A,
+    };
+    let mut turns = Items::new(alloc);
+    turns.push(commit(alloc, 5, appended(alloc, 5)?)?)?;
+    turns.push(still(
+        alloc,
+        TurnKind::Conflict {
+            table: T,
+            number: 5,
+        },
+    ))?;
+    turns.push(still(alloc, install))?;
+    turns.push(still(
+        alloc,
+        TurnKind::Stale {
+            table: T,
+            number: 6,
+        },
+    ))?;
+    turns.push(commit(alloc, 7, first_of_two_dropped(alloc)?)?)?;
+    turns.push(commit(alloc, 8, Summary::new(alloc))?)?;
+    Ok(turns)
+}
+
 #[test]
+#[tactic(auto, unfolding(mope_base::specs::Lists::Each))]
 fn example_view(rt: HostRuntime) -> Result<(), Fail> {
     let alloc = rt.alloc();
-    let log = example_log(alloc)?;
-    let turns = vec![in alloc;
-        still(alloc, TurnKind::Began(0)),
-        commit(alloc, 1, appended(alloc, 1)?)?,
-        still(alloc, TurnKind::Began(1)),
-    ]?;
     let view = View {
         mode: Mode::Ordinary,
-        logs: one(alloc, log)?,
-        turns: Items::from_vec(turns),
+        logs: one(alloc, example_log(alloc)?)?,
+        turns: example_turns(alloc)?,
     };
     let expected = b"view ordinary
 session 1
@@ -248,40 +282,15 @@ turn 3 session 1 begin 1
     Ok(())
 }
 
-// No sessions. Of five ascending items the fifth stands too deep, and the tree is balanced; of two the first
-// is dropped, and the second moves up; a column of which all codes stay isn't printed.
+// No sessions, and a last turn with a column of which all codes stay.
 #[test]
+#[tactic(auto, unfolding(mope_base::specs::Lists::Each))]
 fn each_other_turn(rt: HostRuntime) -> Result<(), Fail> {
     let alloc = rt.alloc();
-    let install = TurnKind::Installed {
-        number: 6,
-        table: T,
-        column: A,
-    };
-    let turns = vec![in alloc;
-        commit(alloc, 5, appended(alloc, 5)?)?,
-        still(
-            alloc,
-            TurnKind::Conflict {
-                table: T,
-                number: 5
-            }
-        ),
-        still(alloc, install),
-        still(
-            alloc,
-            TurnKind::Stale {
-                table: T,
-                number: 6
-            }
-        ),
-        commit(alloc, 7, first_of_two_dropped(alloc)?)?,
-        commit(alloc, 8, Summary::new(alloc))?,
-    ]?;
     let view = View {
         mode: Mode::SameTime,
         logs: Items::new(alloc),
-        turns: Items::from_vec(turns),
+        turns: other_turns(alloc)?,
     };
     let expected = b"view same-time
 turn 1 session 1 commit 5

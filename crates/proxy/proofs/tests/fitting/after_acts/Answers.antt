@@ -9,7 +9,7 @@ pub acts-preserved : goal.acts-preserved
 acts-preserved c =
     let step = sum_by-drop_more inserted_numbers c.args.acts.now c.acts.i c.index-acts-i.result c.acts-test.true in
     let own = ap inserted_numbers c.index-acts-i.is in
-    record { low = omega arith; same = omega (arith, step, own, c.numbers_in.ensures.is, c.acts.invariant.same) }
+    record { low = omega arith; same = omega (arith, step, own, c.numbers_in-count.ensures.is, c.acts.invariant.same) }
 
 pub returns : goal.returns
 returns c low =

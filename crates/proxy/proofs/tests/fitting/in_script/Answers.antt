@@ -12,7 +12,7 @@ pieces-preserved c =
     let own = ap numbers_inserted c.index-script-i.is in
     let all = numbers_are c.index-script-i.result in
     let acts = ap (sum_by inserted_numbers) c.acts_in.ensures in
-    let low = c.if-count-LIMIT.false in
+    let low = c.if-count-ge-LIMIT.false in
     let more = c.after_acts-count.ensures low in
     record { low = low; same = omega (arith, step, own, all, acts, more, c.pieces.invariant.same) }
 

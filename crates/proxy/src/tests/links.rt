@@ -148,13 +148,24 @@ impl SortedList {
         Ok(rows)
     }
 
+    fn delete(&mut self, from: usize, to: usize) {
+        'items: for i in from..to {
+            if i < self.counts.len() {
+                self.counts[i] = 0;
+            }
+        }
+    }
+
     fn ask(&mut self, alloc: Global, asked: &Asked) -> Result<Reply, OutOfMemory> {
         let op = asked.conds.as_slice().first().map(|cond| cond.1);
         let (from, to) = self.range(op);
         let mut rows = self.rows(alloc, from, to)?;
         match asked.verb {
             1 => Ok(Reply::Count(rows.len() as u64)),
-            4 => Ok(Reply::Count(rows.len() as u64)),
+            4 => {
+                self.delete(from, to);
+                Ok(Reply::Count(rows.len() as u64))
+            }
             0 => Ok(Reply::Rows {
                 width: 1,
                 bodies: Items::from_vec(rows),

@@ -166,7 +166,8 @@ impl Dialogue {
             answers,
         })?;
         self.place += 1;
-        self.doing = opening_if(self.place < self.script.as_slice().len());
+        let next = opening_if(self.place < self.script.as_slice().len());
+        self.doing = next;
         self.act = 0;
         self.constant = 0;
         self.base = 0;

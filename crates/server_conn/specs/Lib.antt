@@ -5,3 +5,8 @@ pub mod Serving
 pub mod Logs
 pub mod Laws
 pub mod Examples
+pub mod Receipts
+pub mod Handling
+pub mod Inside
+pub mod Asking
+pub mod Stored

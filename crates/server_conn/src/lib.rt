@@ -1,5 +1,21 @@
-//! A connection of the server: definitions and laws of what it does with each request. Nothing here runs.
+//! A connection of the server: what it does with each request, whatever comes. It holds no key.
 #![tactic(auto)]
 
+mod came;
+mod checks;
+mod conn;
 pub mod examples;
+mod inserting;
 pub mod laws;
+mod querying;
+mod receipt;
+mod selecting;
+mod serving;
+mod stage;
+mod txn;
+mod walking;
+mod watch;
+
+pub use conn::Conn;
+pub use receipt::{Receipt, Served};
+pub use watch::{ListWatch, NoWatch, Watch};

@@ -34,3 +34,4 @@ pub mod NextSteps
 pub mod PaceOfRun
 pub mod ShownSteps
 pub mod NoSession
+pub mod UnderSchedule

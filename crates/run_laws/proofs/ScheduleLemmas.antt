@@ -83,7 +83,7 @@ plain-lead : (s : RunSetting) (w : Workload) (schedule : List SessionNo) → tak
 unfolding first_run
 plain-lead s w schedule = sym (plain-turns s (first_run s w) (turns_under s w schedule)) ∙ ap (λ (q : WorldRun). q.plain) (under-lead s w schedule)
 
-plain-run : (s : RunSetting) (w : Workload) (turns : List SessionNo) → (world_run s w turns).plain ≡ run w turns
+pub plain-run : (s : RunSetting) (w : Workload) (turns : List SessionNo) → (world_run s w turns).plain ≡ run w turns
 unfolding world_run run first_run
 plain-run s w turns =
     plain-finished s (world_turns s (first_run s w) turns) (session_numbers 1 w.sessions)

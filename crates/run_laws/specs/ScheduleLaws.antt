@@ -3,9 +3,11 @@ use Rattle.std.specs.Prelude.{◌≡◌, ℕ, suc, ◌*◌, ◌<◌, List, [], �
 use Rattle.mope_base.specs.declared.numbers.SessionNo.{SessionNo}
 use Rattle.walk_proto.specs.declared.messages.Exchange.{Exchange}
 use Rattle.workload.specs.declared.script.Workload.{Workload}
-use Rattle.workload.specs.Run.{Position, ready, committing, installing, position_at, IsComplete}
+use Rattle.workload.specs.Run.{Position, ready, committing, installing, position_at, run, IsComplete}
+use Rattle.workload.specs.Validity.{IsValid}
 use Rattle.run_laws.specs.Worlds.{RunSetting}
 use Rattle.run_laws.specs.WorldRuns.{world_finished_session, world_run}
+use Rattle.run_laws.specs.RunLaws.{RunStands}
 use Rattle.run_laws.specs.Schedules.{Underway, due_at, stepped, scheduled, run_under, turns_under}
 
 -- an entry more is a step more
@@ -19,6 +21,14 @@ TurnsUnderAreComplete = (s : RunSetting) (w : Workload) (schedule : List Session
 -- the run of these turns is the one that the schedule led to
 abbrev pub TurnsUnderGiveRun : Type 0
 TurnsUnderGiveRun = (s : RunSetting) (w : Workload) (schedule : List SessionNo) → world_run s w (turns_under s w schedule) ≡ run_under s w schedule
+
+-- and its plain run is that of the turns
+abbrev pub PlainRunUnder : Type 0
+PlainRunUnder = (s : RunSetting) (w : Workload) (schedule : List SessionNo) → (run_under s w schedule).plain ≡ run w (turns_under s w schedule)
+
+-- of a valid workload, the version that its turns lead to stands for its world, and they tell its sums
+abbrev pub RunUnderStands : Type 0
+RunUnderStands = (s : RunSetting) (w : Workload) (schedule : List SessionNo) → IsValid w → RunStands s w (run_under s w schedule)
 
 -- a session has ended, or is none: it rests, and its script has nothing left
 pub record HasNothingLeft (u : Underway) (n : SessionNo) : Type 0 where

@@ -1,6 +1,6 @@
 //! Turns under a schedule: worked examples and laws. Each function is empty: its contract is the example or the law.
 ghost use Rattle.run_laws.specs.ScheduleExamples.{CommitAcrossInstall, EndedIsSkipped, FirstCommitWins, RebuildUnderWalk, StaleRebuild};
-ghost use Rattle.run_laws.specs.ScheduleLaws.{EndedIsFinished, EndedStays, EntriesGoOn, StepsFinish, StepsRunOut, TurnsUnderAreComplete, TurnsUnderGiveRun};
+ghost use Rattle.run_laws.specs.ScheduleLaws.{EndedIsFinished, EndedStays, EntriesGoOn, PlainRunUnder, RunUnderStands, StepsFinish, StepsRunOut, TurnsUnderAreComplete, TurnsUnderGiveRun};
 
 /// An entry of a session that has ended, or of none, counts for nothing.
 pub fn ended_is_skipped()
@@ -40,6 +40,16 @@ pub fn turns_under_are_complete()
 /// The run of the turns under a schedule is the one that the schedule led to.
 pub fn turns_under_give_run()
     ensures { TurnsUnderGiveRun }
+{}
+
+/// Its plain run is that of the turns.
+pub fn plain_run_under()
+    ensures { PlainRunUnder }
+{}
+
+/// The version that its turns lead to stands for its world.
+pub fn run_under_stands()
+    ensures { RunUnderStands }
 {}
 
 /// The entries of a session that has ended, or of none, change nothing.

@@ -15,6 +15,8 @@ mod tests;
 mod transactions;
 mod turns;
 mod view_lines;
+#[cfg(test)]
+mod view_tests;
 
 pub use history_order::history;
 pub use report_lines::report_text;

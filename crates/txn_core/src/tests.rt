@@ -165,3 +165,86 @@ fn stale_rebuild(rt: HostRuntime) -> Result<(), OutOfMemory> {
     assert_eq!(rt; state.snapshot().version().number(), 1);
     Ok(())
 }
+
+// A transaction that began before an install commits after it, and its row has a code of the tree that the install made.
+#[test]
+fn commit_across_install(rt: HostRuntime) -> Result<(), OutOfMemory> {
+    let mut state = started(rt.alloc())?;
+    let one = begin(&mut state, 1)?;
+    let first = commit_row(rt.alloc(), &mut state, 1, &one, 0)?;
+    assert_eq!(rt; first, Some(Committed::Committed(1)));
+    let two = begin(&mut state, 1)?;
+    let second = commit_row(rt.alloc(), &mut state, 1, &two, 1)?;
+    assert_eq!(rt; second, Some(Committed::Committed(2)));
+    let three = begin(&mut state, 1)?;
+    let other = begin(&mut state, 2)?;
+    let install = rebuild(&mut state, 2, &other)?;
+    assert_eq!(rt; install, Some(Installed::Installed(3)));
+    let third = commit_row(rt.alloc(), &mut state, 1, &three, 2)?;
+    assert_eq!(rt; third, Some(Committed::Committed(4)));
+    assert_eq!(rt; state.turns().len(), 8);
+    assert_eq!(rt; only_code_added(state.turns()), Some(0xc000_0000_0000_0000));
+    Ok(())
+}
+
+// The code that the last turn added, if that is all that it did.
+fn only_code_added(turns: &[Turn]) -> Option<u64> {
+    let [.., last] = turns else {
+        return None;
+    };
+    let [change] = last.changes.as_slice() else {
+        return None;
+    };
+    let summary = &change.summary;
+    if !summary.moved().is_empty() || !summary.dropped().is_empty() {
+        return None;
+    }
+    match summary.added() {
+        [code] => Some(*code),
+        _ => None,
+    }
+}
+
+// What a snapshot shows: its number, and of its table how many rows and items it has.
+fn shown(snapshot: &Snapshot) -> Option<(u64, usize, u32)> {
+    let version = snapshot.version();
+    let table = version.table(TABLE)?;
+    let tree = table.tree(COLUMN)?;
+    Some((version.number(), table.rows(), tree.len()))
+}
+
+// Commits a value after so many others, in a transaction of its own.
+fn commit_alone(
+    alloc: Global,
+    state: &mut State,
+    rank: u32,
+) -> Result<Option<Committed>, OutOfMemory> {
+    let base = begin(state, 1)?;
+    commit_row(alloc, state, 1, &base, rank)
+}
+
+// Balances the column's tree, in a turn of its own.
+fn rebuild_alone(state: &mut State) -> Result<Option<Installed>, OutOfMemory> {
+    let base = begin(state, 3)?;
+    rebuild(state, 3, &base)
+}
+
+// A snapshot stays as it was while ten commits and two installs go on.
+#[test]
+fn snapshot_stays(rt: HostRuntime) -> Result<(), OutOfMemory> {
+    let mut state = started(rt.alloc())?;
+    let first = commit_alone(rt.alloc(), &mut state, 0)?;
+    assert_eq!(rt; first, Some(Committed::Committed(1)));
+    let kept = begin(&mut state, 2)?;
+    for rank in 1..11 {
+        let commit = commit_alone(rt.alloc(), &mut state, rank)?;
+        assert!(rt; matches!(commit, Some(Committed::Committed(_))));
+        if rank % 4 == 0 {
+            let install = rebuild_alone(&mut state)?;
+            assert!(rt; matches!(install, Some(Installed::Installed(_))));
+        }
+        assert_eq!(rt; shown(&kept), Some((1, 1, 1)));
+    }
+    assert_eq!(rt; shown(state.snapshot()), Some((13, 11, 11)));
+    Ok(())
+}

@@ -4,11 +4,17 @@ use Rattle.std.specs.Fmt.{decimal}
 use Rattle.std.specs.List.{list_all, list_any, slice_split}
 use Rattle.std.specs.Str.{bytes_eq}
 use Rattle.hex.specs.Hex.{decode_of}
+use Rattle.mope_base.specs.declared.numbers.Mode.{Mode}
+use Rattle.mope_base.specs.declared.numbers.Mode.TheVariants as mode
 use Rattle.mope_base.specs.declared.numbers.SessionNo.{SessionNo}
 use Rattle.value_cipher.specs.declared.Key.{Key}
 use Rattle.command_words.specs.Grammar.{Known, Text, Use, command_name, has, options, spelled, value_of}
+use Rattle.command_words.specs.declared.order.Generating.{Generating}
 use Rattle.command_words.specs.declared.order.Order.{Order}
 use Rattle.command_words.specs.declared.order.Order.TheVariants.{Replay, Plain, Generate}
+use Rattle.command_words.specs.declared.order.Replaying.{Replaying}
+use Rattle.command_words.specs.declared.order.Schedule.{Schedule}
+use Rattle.command_words.specs.declared.order.Schedule.TheVariants.{Round, Listed}
 
 -- the option stands among the uses: with its value, or as a flag
 abbrev pub stands : Known → List Use → Bool
@@ -22,14 +28,6 @@ takes_only own uses = list_all (λ k. list_any (λ name. bytes_eq name k.name) o
 pub record SpellsKey (digits : Text) (key : Key) : Type 0 where
   pub count : length digits ≡ 64
   pub value : decode_of digits ≡ Ok key.bytes
-
--- the command `replay`, with the option `--key` alone
-pub record IsReplay (uses : List Use) (key : Key) : Type 0 where
-  pub digits : Text
-  pub command : value_of command_name uses ≡ Some (codes "replay")
-  pub own : takes_only (codes "key" ∷ []) uses ≡ true
-  pub given : value_of (codes "key") uses ≡ Some digits
-  pub spells : SpellsKey digits key
 
 -- the text is a number in decimal digits without a sign or a leading zero, within both ends
 abbrev pub SpellsNumber : ℕ → ℕ → Text → ℕ → Type 0
@@ -56,10 +54,41 @@ abbrev pub TurnsOr : Option Text → List SessionNo → Type 0
 TurnsOr None turns = turns ≡ []
 TurnsOr (Some text) turns = SpellsTurns text turns
 
--- the name of a mode, if one stands
-abbrev pub is_mode : Option Text → Bool
-is_mode None = true
-is_mode (Some text) = bytes_eq text (codes "ordinary") || bytes_eq text (codes "same-time")
+-- the name of a mode
+abbrev pub mode_name : Mode → Text
+mode_name mode.Ordinary = codes "ordinary"
+mode_name mode.SameTime = codes "same-time"
+
+-- the mode that an option names, or the ordinary one where the option doesn't stand
+abbrev pub ModeOr : Option Text → Mode → Type 0
+ModeOr None m = m ≡ mode.Ordinary
+ModeOr (Some text) m = text ≡ mode_name m
+
+-- the text is the word `round`, or the numbers of a list of sessions
+abbrev pub SpellsSchedule : Text → Schedule → Type 0
+SpellsSchedule text Round = text ≡ codes "round"
+SpellsSchedule text (Listed sessions) = SpellsTurns text sessions
+
+-- the schedule that an option gives, or the empty list where the option doesn't stand
+abbrev pub ScheduleOr : Option Text → Schedule → Type 0
+ScheduleOr None schedule = schedule ≡ Listed []
+ScheduleOr (Some text) schedule = SpellsSchedule text schedule
+
+-- the options of the command `replay`
+abbrev pub replay_options : List Text
+replay_options = codes "key" ∷ codes "first-nonce" ∷ codes "mode" ∷ codes "schedule" ∷ codes "view" ∷ []
+
+-- the command `replay`, with `--key` and other options of its own
+pub record IsReplay (uses : List Use) (r : Replaying) : Type 0 where
+  pub digits : Text
+  pub command : value_of command_name uses ≡ Some (codes "replay")
+  pub own : takes_only replay_options uses ≡ true
+  pub given : value_of (codes "key") uses ≡ Some digits
+  pub spells : SpellsKey digits r.key
+  pub first_nonce : NumberOr 0 9223372036854775808 0 (value_of (codes "first-nonce") uses) r.first_nonce
+  pub mode : ModeOr (value_of (codes "mode") uses) r.mode
+  pub schedule : ScheduleOr (value_of (codes "schedule") uses) r.schedule
+  pub view : r.view ≡ has (codes "view") uses
 
 -- the command `plain`, with the option `--turns` or none
 pub record IsPlain (uses : List Use) (turns : List SessionNo) : Type 0 where
@@ -71,22 +100,22 @@ pub record IsPlain (uses : List Use) (turns : List SessionNo) : Type 0 where
 abbrev pub generate_options : List Text
 generate_options = codes "number" ∷ codes "sessions" ∷ codes "transactions" ∷ codes "mode" ∷ codes "text" ∷ []
 
--- the command `generate` with `--number` and `--text`, and with other options of its own
-pub record IsGenerate (uses : List Use) (number sessions transactions : ℕ) : Type 0 where
+-- the command `generate` with `--number`, and with other options of its own
+pub record IsGenerate (uses : List Use) (g : Generating) : Type 0 where
   pub command : value_of command_name uses ≡ Some (codes "generate")
   pub own : takes_only generate_options uses ≡ true
-  pub as_text : has (codes "text") uses ≡ true
-  pub mode : is_mode (value_of (codes "mode") uses) ≡ true
   pub digits : Text
   pub number_given : value_of (codes "number") uses ≡ Some digits
-  pub number_is : SpellsNumber 0 18446744073709551615 digits number
-  pub sessions_given : NumberOr 1 64 4 (value_of (codes "sessions") uses) sessions
-  pub transactions_given : NumberOr 1 1000 50 (value_of (codes "transactions") uses) transactions
+  pub number_is : SpellsNumber 0 18446744073709551615 digits g.number
+  pub sessions_given : NumberOr 1 64 4 (value_of (codes "sessions") uses) g.sessions
+  pub transactions_given : NumberOr 1 1000 50 (value_of (codes "transactions") uses) g.transactions
+  pub mode : ModeOr (value_of (codes "mode") uses) g.mode
+  pub as_text : g.text ≡ has (codes "text") uses
 
 abbrev pub IsOrder : List Use → Order → Type 0
-IsOrder uses (Replay key) = IsReplay uses key
+IsOrder uses (Replay r) = IsReplay uses r
 IsOrder uses (Plain turns) = IsPlain uses turns
-IsOrder uses (Generate number sessions transactions) = IsGenerate uses number sessions transactions
+IsOrder uses (Generate g) = IsGenerate uses g
 
 -- the words are right and order this
 pub record AreWords (words : List Text) (order : Order) : Type 0 where

@@ -7,7 +7,7 @@ mod numbers;
 mod order;
 
 pub use numbers::plain_number;
-pub use order::{Order, read_order};
+pub use order::{Generating, Order, Replaying, Schedule, read_order};
 
 #[cfg(test)]
 mod tests;

@@ -71,7 +71,7 @@ pub(crate) fn turns_or_none(
 }
 
 /// The sessions whose numbers the text is, joined by single commas.
-fn turns_in(alloc: Global, text: &str) -> Result<Option<Items<SessionNo>>, OutOfMemory>
+pub(crate) fn turns_in(alloc: Global, text: &str) -> Result<Option<Items<SessionNo>>, OutOfMemory>
     ensures { IfOk result (λ found. MatchOption found ((turns : List SessionNoValue) → ¬ SpellsTurns text.now turns) (λ turns. SpellsTurns text.now turns)) }
 {
     let texts = cut_at_commas(alloc, text)?;

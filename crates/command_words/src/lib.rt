@@ -11,3 +11,5 @@ pub use order::{Generating, Order, Replaying, Schedule, read_order};
 
 #[cfg(test)]
 mod tests;
+#[cfg(test)]
+mod wrong_tests;

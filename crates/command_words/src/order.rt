@@ -176,10 +176,7 @@ fn mode_or_ordinary(word: Option<&str>) -> Option<Mode>
 }
 
 /// The schedule that a word spells, or the empty list where there is no word.
-fn schedule_or_none(
-    alloc: Global,
-    word: Option<&str>,
-) -> Result<Option<Schedule>, OutOfMemory>
+fn schedule_or_none(alloc: Global, word: Option<&str>) -> Result<Option<Schedule>, OutOfMemory>
     ensures { IfOk result (λ found. MatchOption found ((schedule : ScheduleValue) → ¬ ScheduleOr (text_of word.entry) schedule) (λ schedule. ScheduleOr (text_of word.entry) schedule)) }
 {
     match word {

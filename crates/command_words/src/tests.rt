@@ -1,6 +1,6 @@
-//! Lists of words, right and wrong.
+//! Lists of right words.
 use super::*;
-use mope_base::OutOfMemory;
+use mope_base::{Mode, OutOfMemory, SessionNo};
 use std::alloc::Global;
 
 /// 64 hexadecimal digits in three spellings, too few digits, too many, and some that are none.
@@ -28,7 +28,7 @@ const WITH_MANY: &str = "--key=0000102030405060708090a0b0c0d0e0f1011121314151617
 const WITH_WRONG_DIGIT: &str =
     "--key=000102030405060708090a0b0c0d0e0f101112131415161718191a1b1c1d1e1g";
 
-/// Lists that order a replay under the key. Words are parted by one space, and names in capitals stand for the words
+/// Lists that order a replay under the key, and nothing else that isn't so without options. Words are parted by one space, and names in capitals stand for the words
 /// above.
 static RIGHT: [&str; 14] = [
     "replay --key LOWER",
@@ -45,170 +45,6 @@ static RIGHT: [&str; 14] = [
     "replay --key MIXED --",
     "replay --key=LOWER --",
     "--key MIXED replay --",
-];
-
-/// Lists that order nothing, in the same form. Two spaces, and one at an end, have an empty word beside them.
-static WRONG: [&str; 142] = [
-    // no words, or no command
-    "",
-    "--key LOWER",
-    "--key=LOWER",
-    "--",
-    "--key LOWER --",
-    // no key
-    "replay",
-    "-- replay",
-    "replay --",
-    "replay LOWER",
-    "replay --key",
-    "--key replay",
-    "replay --key --",
-    // a key of another form
-    "replay --key=",
-    "replay --key ",
-    "replay --key FEW",
-    "replay --key=FEW",
-    "replay --key MANY",
-    "replay --key=MANY",
-    "replay --key WRONG_DIGIT",
-    "replay --key=WRONG_DIGIT",
-    "replay --key 0",
-    "replay --key -1",
-    "replay --key=-1",
-    "replay --key==LOWER",
-    // the key isn't where it belongs
-    "replay --key  LOWER",
-    "replay --key -- LOWER",
-    "--key -- LOWER replay",
-    "--key replay LOWER",
-    "replay --key --key=LOWER",
-    "replay --key --view LOWER",
-    "replay --key - LOWER",
-    // after `--` no word is an option
-    "replay -- --key LOWER",
-    "replay -- --key=LOWER",
-    "-- replay --key LOWER",
-    "-- replay --key=LOWER",
-    "-- --key=LOWER replay",
-    "--key LOWER -- --",
-    "--key LOWER -- replay --",
-    "replay --key LOWER -- --",
-    // an option twice
-    "replay --key LOWER --key LOWER",
-    "replay --key=LOWER --key=LOWER",
-    "replay --key LOWER --key=LOWER",
-    "replay --key=LOWER --key LOWER",
-    "--key LOWER replay --key LOWER",
-    "replay --key LOWER --view --view",
-    // more words than the command
-    "replay replay --key LOWER",
-    "replay --key LOWER replay",
-    "replay run --key LOWER",
-    "--key LOWER -- replay replay",
-    "replay --key LOWER -- replay",
-    "replay --key LOWER ",
-    "replay  --key LOWER",
-    "replay --key LOWER LOWER",
-    "replay key LOWER",
-    // another command
-    " --key LOWER",
-    "- --key LOWER",
-    "play --key LOWER",
-    "Replay --key LOWER",
-    "REPLAY --key LOWER",
-    "replay= --key LOWER",
-    "--replay --key LOWER",
-    "help",
-    "help replay",
-    // other names of options
-    "replay --keys LOWER",
-    "replay --ke LOWER",
-    "replay --Key LOWER",
-    "replay -k LOWER",
-    "replay -key LOWER",
-    "replay --=LOWER",
-    "replay --key LOWER -",
-    "replay --key LOWER -v",
-    "replay --key LOWER --help",
-    "replay --key LOWER -h",
-    "replay --key LOWER --version",
-    "--help",
-    "-V",
-    // options of other commands
-    "replay --key LOWER --turns 1",
-    "replay --key LOWER --turns=",
-    "replay --key LOWER --number 5",
-    "replay --key LOWER --sessions 4",
-    "replay --key LOWER --transactions 50",
-    "replay --key LOWER --text",
-    // a flag with a value
-    "replay --key LOWER --view=1",
-    // options and commands that aren't built yet
-    "replay --key LOWER --view",
-    "replay --key LOWER --mode ordinary",
-    "run --key LOWER",
-    "twin",
-    "generate --number 5",
-    // no list of turns
-    "plain --turns",
-    "plain --turns=",
-    "plain --turns ",
-    "plain --turns 0",
-    "plain --turns 65",
-    "plain --turns 01",
-    "plain --turns +1",
-    "plain --turns=-1",
-    "plain --turns 1,",
-    "plain --turns ,1",
-    "plain --turns 1,,2",
-    "plain --turns 1;2",
-    "plain --turns=1, 2",
-    "plain --turns 1,0x2",
-    "plain --turns 1,18446744073709551617",
-    "plain --turns round",
-    "plain 1",
-    // what `plain` doesn't take
-    "plain --turns 1 --turns 1",
-    "plain --key LOWER",
-    "plain --first-nonce 0",
-    "plain --mode ordinary",
-    "plain --schedule 1",
-    "plain --schedule=round",
-    "plain --number 5",
-    "plain --sessions 4",
-    "plain --transactions 50",
-    "plain --view",
-    "plain --text",
-    // no number
-    "generate --text",
-    "generate --text --number",
-    "generate --text --number=",
-    "generate --text --number 05",
-    "generate --text --number +5",
-    "generate --text --number=-5",
-    "generate --text --number 18446744073709551616",
-    "generate --text --number 5 --number 5",
-    // another number of sessions or of transactions
-    "generate --number 5 --text --sessions 0",
-    "generate --number 5 --text --sessions 65",
-    "generate --number 5 --text --sessions 04",
-    "generate --number 5 --text --sessions=",
-    "generate --number 5 --text --transactions 0",
-    "generate --number 5 --text --transactions 1001",
-    "generate --number 5 --text --transactions=+50",
-    "generate --number 5 --text --transactions 65537",
-    // another mode, or a flag with a value
-    "generate --number 5 --text --mode=",
-    "generate --number 5 --text --mode Ordinary",
-    "generate --number 5 --text --mode same_time",
-    "generate --number 5 --text=1",
-    "generate --number 5 --text --text",
-    // what `generate` doesn't take
-    "generate --number 5 --text --key LOWER",
-    "generate --number 5 --text --first-nonce 0",
-    "generate --number 5 --text --schedule 1",
-    "generate --number 5 --text --turns 1",
-    "generate --number 5 --text --view",
 ];
 
 /// The word for which a piece of a line stands.
@@ -230,7 +66,7 @@ fn word_for(piece: &str) -> &str {
 }
 
 /// What the words of a line order.
-fn ordered(alloc: Global, line: &str) -> Result<Option<Order>, OutOfMemory> {
+pub(crate) fn ordered(alloc: Global, line: &str) -> Result<Option<Order>, OutOfMemory> {
     let mut words = Vec::new(alloc);
     if !line.is_empty() {
         for piece in line.split(' ') {
@@ -238,14 +74,6 @@ fn ordered(alloc: Global, line: &str) -> Result<Option<Order>, OutOfMemory> {
         }
     }
     read_order(alloc, &words)
-}
-
-#[test]
-fn wrong_words(rt: HostRuntime) {
-    for line in WRONG {
-        let order = ordered(rt.alloc(), line).expect(&rt, "memory for the words");
-        assert!(rt; order.is_none(), "at {line}");
-    }
 }
 
 /// Lists that order `plain`, with the sessions of the turns.
@@ -261,81 +89,303 @@ static PLAIN: [(&str, &[u8]); 9] = [
     ("plain --turns=63,64", &[63, 64]),
 ];
 
-/// Lists that order the text of `generate`, with the number and how many sessions and transactions.
-static GENERATE: [(&str, u64, u8, u16); 8] = [
-    ("generate --number 0 --text", 0, 4, 50),
-    ("generate --text --number 5 --sessions 1", 5, 1, 50),
-    ("generate --text --number 5 --transactions 1", 5, 4, 1),
+/// Lists that order a replay under the key, with the first nonce, the mode, the sessions of the schedule, which `round` has not,
+/// and whether the view is told.
+static REPLAY: [(&str, u64, Mode, Option<&[u8]>, bool); 17] = [
+    (
+        "replay --key LOWER --first-nonce 0",
+        0,
+        Mode::Ordinary,
+        Some(&[]),
+        false,
+    ),
+    (
+        "--first-nonce=7 replay --key=LOWER",
+        7,
+        Mode::Ordinary,
+        Some(&[]),
+        false,
+    ),
+    (
+        "replay --key LOWER --first-nonce 9223372036854775808",
+        9223372036854775808,
+        Mode::Ordinary,
+        Some(&[]),
+        false,
+    ),
+    (
+        "replay --key LOWER --mode ordinary",
+        0,
+        Mode::Ordinary,
+        Some(&[]),
+        false,
+    ),
+    (
+        "replay --key LOWER --mode same-time",
+        0,
+        Mode::SameTime,
+        Some(&[]),
+        false,
+    ),
+    (
+        "replay --mode=same-time --key LOWER",
+        0,
+        Mode::SameTime,
+        Some(&[]),
+        false,
+    ),
+    (
+        "replay --key LOWER --schedule round",
+        0,
+        Mode::Ordinary,
+        None,
+        false,
+    ),
+    (
+        "replay --schedule=round --key LOWER",
+        0,
+        Mode::Ordinary,
+        None,
+        false,
+    ),
+    (
+        "replay --key LOWER --schedule 1",
+        0,
+        Mode::Ordinary,
+        Some(&[1]),
+        false,
+    ),
+    (
+        "replay --key LOWER --schedule 1,2,1",
+        0,
+        Mode::Ordinary,
+        Some(&[1, 2, 1]),
+        false,
+    ),
+    (
+        "--schedule=64,10,9 --key LOWER -- replay",
+        0,
+        Mode::Ordinary,
+        Some(&[64, 10, 9]),
+        false,
+    ),
+    (
+        "replay --key LOWER --view",
+        0,
+        Mode::Ordinary,
+        Some(&[]),
+        true,
+    ),
+    (
+        "--view replay --key=LOWER --",
+        0,
+        Mode::Ordinary,
+        Some(&[]),
+        true,
+    ),
+    (
+        "replay --key LOWER --first-nonce 12 --mode same-time --schedule 2,1 --view",
+        12,
+        Mode::SameTime,
+        Some(&[2, 1]),
+        true,
+    ),
+    (
+        "--mode ordinary --view replay --schedule 3,3 --key MIXED --first-nonce 1",
+        1,
+        Mode::Ordinary,
+        Some(&[3, 3]),
+        true,
+    ),
+    (
+        "--schedule round --first-nonce 1 replay --mode same-time --key=LOWER",
+        1,
+        Mode::SameTime,
+        None,
+        false,
+    ),
+    (
+        "--view --schedule=round --first-nonce=9223372036854775808 --mode=same-time --key=UPPER -- replay",
+        9223372036854775808,
+        Mode::SameTime,
+        None,
+        true,
+    ),
+];
+
+/// Lists that order `generate`, with the number, how many sessions and transactions, the mode, and whether it is a text.
+static GENERATE: [(&str, u64, u8, u16, Mode, bool); 12] = [
+    ("generate --number 0 --text", 0, 4, 50, Mode::Ordinary, true),
+    (
+        "generate --text --number 5 --sessions 1",
+        5,
+        1,
+        50,
+        Mode::Ordinary,
+        true,
+    ),
+    (
+        "generate --text --number 5 --transactions 1",
+        5,
+        4,
+        1,
+        Mode::Ordinary,
+        true,
+    ),
     (
         "generate --number 0 --sessions 1 --transactions 1 --text",
         0,
         1,
         1,
+        Mode::Ordinary,
+        true,
     ),
     (
         "--number=18446744073709551615 --text generate",
         18446744073709551615,
         4,
         50,
+        Mode::Ordinary,
+        true,
     ),
     (
         "--text --sessions=64 --transactions=1000 --number=7 -- generate",
         7,
         64,
         1000,
+        Mode::Ordinary,
+        true,
     ),
-    ("generate --mode ordinary --number 10 --text", 10, 4, 50),
-    ("generate --text --number 9 --mode=same-time", 9, 4, 50),
+    (
+        "generate --mode ordinary --number 10 --text",
+        10,
+        4,
+        50,
+        Mode::Ordinary,
+        true,
+    ),
+    (
+        "generate --text --number 9 --mode=same-time",
+        9,
+        4,
+        50,
+        Mode::SameTime,
+        true,
+    ),
+    ("generate --number 5", 5, 4, 50, Mode::Ordinary, false),
+    (
+        "generate --number 7 --mode same-time",
+        7,
+        4,
+        50,
+        Mode::SameTime,
+        false,
+    ),
+    (
+        "--mode=ordinary --sessions 64 --number 7 generate --",
+        7,
+        64,
+        50,
+        Mode::Ordinary,
+        false,
+    ),
+    (
+        "--transactions 1000 generate --sessions=2 --number=7",
+        7,
+        2,
+        1000,
+        Mode::Ordinary,
+        false,
+    ),
 ];
 
-/// Whether it is a replay under the key of these bytes.
-fn is_replay(order: &Option<Order>, bytes: &[u8]) -> bool {
-    match order {
-        Some(Order::Replay { key }) => key.bytes.as_slice() == bytes,
-        _ => false,
-    }
-}
-
-/// Whether it is `plain` under these turns.
-fn is_plain(order: &Option<Order>, wanted: &[u8]) -> bool {
-    let Some(Order::Plain { turns }) = order else {
-        return false;
-    };
-    let turns = turns.as_slice();
-    if turns.len() != wanted.len() {
+/// Whether the sessions have these numbers.
+fn are_sessions(sessions: &[SessionNo], wanted: &[u8]) -> bool {
+    if sessions.len() != wanted.len() {
         return false;
     }
-    for i in 0..turns.len() {
-        if turns[i].0 != wanted[i] {
+    for i in 0..sessions.len() {
+        if sessions[i].0 != wanted[i] {
             return false;
         }
     }
     true
 }
 
-/// Whether it is `generate` of these numbers.
-fn is_generate(order: &Option<Order>, wanted: (u64, u8, u16)) -> bool {
-    match order {
-        Some(
-            Order::Generate {
-                number,
-                sessions,
-                transactions,
-            },
-        ) => (*number, *sessions, *transactions) == wanted,
+/// Whether it is the schedule of these sessions, or `round` where there are none.
+fn is_schedule(schedule: &Schedule, wanted: Option<&[u8]>) -> bool {
+    match (schedule, wanted) {
+        (Schedule::Round, None) => true,
+        (Schedule::Listed(sessions), Some(wanted)) => are_sessions(sessions.as_slice(), wanted),
         _ => false,
     }
 }
 
-#[test]
-fn right_words(rt: HostRuntime) {
+/// Whether it is a replay under the key of these bytes, with this first nonce, mode, schedule and view.
+fn is_replay(
+    order: &Option<Order>,
+    bytes: &[u8],
+    first_nonce: u64,
+    mode: Mode,
+    schedule: Option<&[u8]>,
+    view: bool,
+) -> bool {
+    let Some(Order::Replay(found)) = order else {
+        return false;
+    };
+    found.key.bytes.as_slice() == bytes
+        && found.first_nonce == first_nonce
+        && found.mode == mode
+        && is_schedule(&found.schedule, schedule)
+        && found.view == view
+}
+
+/// Whether it is `plain` under these turns.
+fn is_plain(order: &Option<Order>, wanted: &[u8]) -> bool {
+    match order {
+        Some(Order::Plain { turns }) => are_sessions(turns.as_slice(), wanted),
+        _ => false,
+    }
+}
+
+/// Whether it is `generate` of this workload.
+fn is_generate(order: &Option<Order>, wanted: Generating) -> bool {
+    match order {
+        Some(Order::Generate(found)) => *found == wanted,
+        _ => false,
+    }
+}
+
+/// The bytes of the key.
+fn key_bytes() -> [u8; 32] {
     let mut bytes = [0; 32];
     for place in 0..32_u8 {
         bytes[usize::from(place)] = place;
     }
+    bytes
+}
+
+#[test]
+fn right_words(rt: HostRuntime) {
+    let bytes = key_bytes();
     for line in RIGHT {
         let order = ordered(rt.alloc(), line).expect(&rt, "memory for the words");
-        assert!(rt; is_replay(&order, &bytes), "at {line}");
+        assert!(rt;
+            is_replay(&order, &bytes, 0, Mode::Ordinary, Some(&[]), false),
+            "at {line}"
+        );
+    }
+}
+
+#[test]
+fn words_of_replay(rt: HostRuntime) {
+    let bytes = key_bytes();
+    for (line, first_nonce, mode, schedule, view) in REPLAY {
+        let order = ordered(rt.alloc(), line).expect(&rt, "memory for the words");
+        assert!(rt;
+            is_replay(&order, &bytes, first_nonce, mode, schedule, view),
+            "at {line}"
+        );
     }
 }
 
@@ -349,11 +399,15 @@ fn words_of_plain(rt: HostRuntime) {
 
 #[test]
 fn words_of_generate(rt: HostRuntime) {
-    for (line, number, sessions, transactions) in GENERATE {
+    for (line, number, sessions, transactions, mode, text) in GENERATE {
         let order = ordered(rt.alloc(), line).expect(&rt, "memory for the words");
-        assert!(rt;
-            is_generate(&order, (number, sessions, transactions)),
-            "at {line}"
-        );
+        let wanted = Generating {
+            number,
+            sessions,
+            transactions,
+            mode,
+            text,
+        };
+        assert!(rt; is_generate(&order, wanted), "at {line}");
     }
 }

@@ -89,8 +89,8 @@ static PLAIN: [(&str, &[u8]); 9] = [
     ("plain --turns=63,64", &[63, 64]),
 ];
 
-/// Lists that order a replay under the key, with the first nonce, the mode, the sessions of the schedule, which `round` has not,
-/// and whether the view is told.
+/// Lists that order a replay under the key, with the first nonce, the mode, the sessions of the schedule, None for `round`, and
+/// whether the view is told.
 static REPLAY: [(&str, u64, Mode, Option<&[u8]>, bool); 17] = [
     (
         "replay --key LOWER --first-nonce 0",
@@ -312,7 +312,7 @@ fn are_sessions(sessions: &[SessionNo], wanted: &[u8]) -> bool {
     true
 }
 
-/// Whether it is the schedule of these sessions, or `round` where there are none.
+/// Whether it is the schedule of these sessions, or `round` for None.
 fn is_schedule(schedule: &Schedule, wanted: Option<&[u8]>) -> bool {
     match (schedule, wanted) {
         (Schedule::Round, None) => true,

@@ -198,6 +198,19 @@ impl State {
         self.turns.as_slice()
     }
 
+    /// The turns that were taken, in order, without the versions that they led to.
+    pub fn into_turns(self) -> Items<Turn>
+        ensures value { result ≡ self.turns }
+        ensures replays { Replays self.first self.turns self.current }
+    {
+        let State {
+            first: _,
+            turns,
+            current: _,
+        } = self;
+        Items::from_vec(turns)
+    }
+
     /// The current version.
     pub fn snapshot(&self) -> &Snapshot
         ensures value { result.now ≡ self.now.current }

@@ -1,7 +1,7 @@
 pub mod ListLemmas
 mod AnswerLemmas
 mod ConstantLemmas
-mod DriveLemmas
+pub mod DriveLemmas
 mod HearingLemmas
 mod NamedLemmas
 mod RequestLemmas

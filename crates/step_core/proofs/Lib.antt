@@ -1,0 +1,20 @@
+-- Lemmas of a run on one thread.
+pub mod Goings
+pub mod SessionLists
+pub mod Asking
+pub mod ReadableOn
+pub mod StartFollows
+pub mod Opened
+pub mod FollowsOn
+pub mod MadeOn
+pub mod Turned
+pub mod Exchanged
+pub mod Started
+pub mod Ending
+pub mod Places
+pub mod Stepped
+pub mod CoreSteps
+pub mod Ended
+pub mod Beginnings
+pub mod Finishes
+pub mod SeatLists

@@ -3,6 +3,7 @@
 
 use mope_base::{OutOfMemory, Status, StdSink, StdSource};
 use mope_top::mope_batch;
+use server_conn::NoWatch;
 use std::env;
 use std::io::ErrorKind;
 use std::process::ExitCode;
@@ -11,7 +12,7 @@ fn main(rt: HostRuntime) -> ExitCode {
     let mut input = StdSource::new(rt.stdin());
     let mut out = StdSink::new(rt.stdout());
     let status = match command_words(&rt) {
-        Ok(words) => mope_batch(rt.alloc(), &words, &mut input, &mut out),
+        Ok(words) => mope_batch(rt.alloc(), &words, &mut input, &mut out, &mut NoWatch),
         Err(OutOfMemory) => Status::Memory,
     };
     ExitCode::from(status.code())

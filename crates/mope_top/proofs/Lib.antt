@@ -1,14 +1,11 @@
-pub mod DecimalFront
-pub mod StrippedFront
-pub mod FirstFormLines
-pub mod FirstFormLaws
-pub mod FirstRunLemmas
+-- Lemmas of the top call.
 mod BatchLemmas
 mod DoingLemmas
 mod RefusalLemmas
-pub mod ReportLines
-pub mod WalkLemmas
-pub mod RowLemmas
-pub mod CodedRows
-pub mod PlaceLemmas
-pub mod ReplayLemmas
+mod Rounds
+mod LessWork
+mod RoundsOnLemmas
+mod RanLemmas
+mod Merging
+mod Reporting
+mod Summaries

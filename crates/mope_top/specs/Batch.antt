@@ -1,6 +1,6 @@
 -- How a call of the program ends: its words, its input and its output before and after. What a stream tells of its bytes
 -- may be nothing; then the clauses on them say nothing.
-use Rattle.std.specs.Prelude.{◌≡◌, ℕ, ◌<◌, ◌≤◌, ◌++◌, ◌∷◌, [], ◌⊎◌, List, codes, Option, Err}
+use Rattle.std.specs.Prelude.{◌≡◌, ℕ, ◌^◌, ◌<◌, ◌≤◌, Bool, true, false, ◌++◌, ◌∷◌, [], ◌⊎◌, List, codes, Option, Err}
 use Rattle.std.specs.Io.KnownBytes.{Appends, Keeps}
 use Rattle.mope_base.specs.declared.numbers.SessionNo.{SessionNo}
 use Rattle.mope_base.specs.declared.status.Status.{Status}
@@ -9,47 +9,31 @@ use Rattle.mope_base.specs.Faults.{Rose}
 use Rattle.mope_base.specs.ReadAll.{TakesAll, TakesExactly}
 use Rattle.mope_base.specs.WriteAll.{AppendsFront}
 use Rattle.workload.specs.declared.script.Workload.{Workload}
-use Rattle.workload.specs.Report.{plain_report, report}
-use Rattle.workload.specs.Run.{run, turns_taken, IsComplete}
-use Rattle.workload.specs.History.{history, Serial}
+use Rattle.workload.specs.Report.{plain_report}
 use Rattle.workload_file.specs.GeneratedText.{generated}
 use Rattle.workload_file.specs.WorkloadFile.{GivesVerdict, IsWorkloadFile}
 use Rattle.workload_file.specs.declared.stops.FileReason.{FileReason}
 use Rattle.workload_file.specs.declared.stops.FileReason.TheVariants as reason
 use Rattle.workload_file.specs.declared.stops.FileStop.TheVariants.{Bad}
 use Rattle.mope_top.specs.FaultText.{fault_text}
-use Rattle.mope_top.specs.FirstForm.{IsFirstForm, IsNotFirstForm}
-use Rattle.mope_top.specs.FirstRun.{workload_of}
+use Rattle.mope_top.specs.Replays.{IsOneHistory, Reports, SumsUp}
 use Rattle.command_words.specs.Orders.{AreWords, AreNoWords}
+use Rattle.command_words.specs.declared.order.Generating.{Generating}
 use Rattle.command_words.specs.declared.order.Order.{Order}
 use Rattle.command_words.specs.declared.order.Order.TheVariants.{Replay, Plain, Generate}
-use Rattle.mope_top.specs.declared.first_form.Statement.{Statement}
+use Rattle.command_words.specs.declared.order.Replaying.{Replaying}
 
 -- the command reads an input
 abbrev pub Reads : Order → Type 0
-Reads (Replay key) = Unit {0}
+Reads (Replay r) = Unit {0}
 Reads (Plain turns) = Unit {0}
-Reads (Generate number sessions transactions) = ⊥
+Reads (Generate g) = ⊥
 
 -- the words are right, and their command reads an input
 pub record AreReading (words : List (List ℕ)) : Type 0 where
   pub order : Order
   pub words_are : AreWords words order
   pub reads : Reads order
-
--- what the report of a run prints is one history: its turns are a complete list for the workload, and its transactions, in
--- the order in which they stand, are those that a single thread could have made
-pub record IsOneHistory (w : Workload) (turns : List SessionNo) : Type 0 where
-  pub complete : IsComplete w (turns_taken (run w turns))
-  pub serial : Serial w (run w turns) (history (run w turns))
-
--- `replay`: the text is the report of the workload that the bytes spell, with the first nonce 0, under the turns that its
--- run takes, and what it prints is one history
-pub record Reports (bytes text : List ℕ) : Type 0 where
-  pub statements : List Statement
-  pub spelled : IsFirstForm bytes statements
-  pub text_is : text ≡ report 0 (workload_of statements) []
-  pub one_history : IsOneHistory (workload_of statements) []
 
 -- `plain`: the text is the plain report of the workload that the bytes spell, under the turns that its run takes, given
 -- these, and what it prints is one history
@@ -76,25 +60,30 @@ pub record ReadsAll (old new : Option (List ℕ)) (Is : List ℕ → Type 0) : T
 abbrev pub IsTooLong : Option (List ℕ) → Option (List ℕ) → Type 0
 IsTooLong old new = TakesExactly old new 67108865
 
+-- `generate`: the text is the one that is drawn, or sums up its run
+abbrev pub TellsDrawn : Bool → Generating → List ℕ → Type 0
+TellsDrawn true g text = text ≡ generated g.number g.sessions g.transactions
+TellsDrawn false g text = SumsUp g text
+
 -- the text is what a command writes on an input
 abbrev pub Outputs : Order → Option (List ℕ) → Option (List ℕ) → List ℕ → Type 0
-Outputs (Replay key) old new text = ReadsAll old new (λ bytes. Reports bytes text)
+Outputs (Replay r) old new text = ReadsAll old new (λ bytes. Reports r bytes text)
 Outputs (Plain turns) old new text = ReadsAll old new (λ bytes. TellsPlainly turns bytes text)
-Outputs (Generate number sessions transactions) old new text = (new ≡ old) × (text ≡ generated number sessions transactions)
+Outputs (Generate g) old new text = (new ≡ old) × TellsDrawn g.text g text
 
--- the lines of the two refusals
+-- the line of wrong words
 abbrev pub usage_text : List ℕ
 usage_text = codes "error usage" ++ 10 ∷ []
 
-abbrev pub input_text : List ℕ
-input_text = codes "error line 0: not in the first form" ++ 10 ∷ []
+-- the text is the line that refuses an input: it has a fault, or a byte too many
+abbrev pub RefusesInput : Option (List ℕ) → Option (List ℕ) → List ℕ → Type 0
+RefusesInput old new text = ReadsAll old new (λ bytes. NamesFault bytes text) ⊎ (IsTooLong old new × (text ≡ fault_text 0 reason.InputTooLong))
 
 -- the text is the line by which a command refuses an input
 abbrev pub Refuses : Order → Option (List ℕ) → Option (List ℕ) → List ℕ → Type 0
-Refuses (Replay key) old new text = (ReadsAll old new IsNotFirstForm ⊎ IsTooLong old new) × (text ≡ input_text)
-Refuses (Plain turns) old new text =
-    ReadsAll old new (λ bytes. NamesFault bytes text) ⊎ (IsTooLong old new × (text ≡ fault_text 0 reason.InputTooLong))
-Refuses (Generate number sessions transactions) old new text = ⊥
+Refuses (Replay r) old new text = RefusesInput old new text
+Refuses (Plain turns) old new text = RefusesInput old new text
+Refuses (Generate g) old new text = ⊥
 
 -- the text that a status writes under a command
 abbrev pub Does : Order → Status → Option (List ℕ) → Option (List ℕ) → List ℕ → Type 0
@@ -159,6 +148,10 @@ pub record IsUnread (old new : Option (List ℕ)) (reads read : ℕ) : Type 0 wh
   pub left : new ≡ old
   pub faults : read ≡ reads
 
+-- a status that wrote a text of which this is so, or want of memory
+abbrev pub WritesSomeOrMemory : Status → Status → Option (List ℕ) → Option (List ℕ) → (List ℕ → Type 0) → Type 0
+WritesSomeOrMemory status wanted was is Is = ((status ≡ wanted) × ((text : List ℕ) × Is text × Appends was is text)) ⊎ (status ≡ Memory)
+
 -- a status that wrote this text, or want of memory
 abbrev pub WritesOrMemory : Status → Status → Option (List ℕ) → Option (List ℕ) → List ℕ → Type 0
 WritesOrMemory status wanted was is text = ((status ≡ wanted) × Appends was is text) ⊎ (status ≡ Memory)
@@ -181,20 +174,20 @@ Stops order Memory reads read = Unit {0}
 Stops order ReadFault reads read = Reads order × Rose reads read
 Stops order WriteFault reads read = ⊥
 
--- the numbers of `generate` are within their limits
+-- the numbers of an order are within their limits
 abbrev pub HasSizes : Order → Type 0
-HasSizes (Replay key) = Unit {0}
+HasSizes (Replay r) = r.first_nonce ≤ 2 ^ 63
 HasSizes (Plain turns) = Unit {0}
-HasSizes (Generate number sessions transactions) = (0 < sessions) × (sessions ≤ 64) × (0 < transactions) × (transactions ≤ 1000)
+HasSizes (Generate g) = (0 < g.sessions) × (g.sessions ≤ 64) × (0 < g.transactions) × (g.transactions ≤ 1000)
 
--- what is to be written after a whole input was read: its report, or that it isn't of the first form
-abbrev pub IsJudged : List ℕ → Status → List ℕ → Type 0
-IsJudged bytes Done text = Reports bytes text
-IsJudged bytes Usage text = ⊥
-IsJudged bytes Input text = IsNotFirstForm bytes × (text ≡ input_text)
-IsJudged bytes Memory text = ⊥
-IsJudged bytes ReadFault text = ⊥
-IsJudged bytes WriteFault text = ⊥
+-- what is to be written after a whole input was read: the text of its replay, or the line of its first fault
+abbrev pub IsReplayed : Replaying → List ℕ → Status → List ℕ → Type 0
+IsReplayed r bytes Done text = Reports r bytes text
+IsReplayed r bytes Usage text = ⊥
+IsReplayed r bytes Input text = NamesFault bytes text
+IsReplayed r bytes Memory text = ⊥
+IsReplayed r bytes ReadFault text = ⊥
+IsReplayed r bytes WriteFault text = ⊥
 
 -- the same for `plain`: its plain report, or the line of its first fault
 abbrev pub IsPlainlyJudged : List SessionNo → List ℕ → Status → List ℕ → Type 0

@@ -1,8 +1,6 @@
-pub mod FirstForm
-pub mod FirstRun
+-- All that the program does, as its top call's contract names it.
 pub mod FaultText
+pub mod Replays
+pub mod Ran
 pub mod Batch
-pub mod FirstReport
-pub mod SealedItems
-pub mod SealedServer
 pub mod Counts

@@ -2,17 +2,11 @@
 #![tactic(auto)]
 
 mod batch;
-mod code_counts;
-mod digits;
-mod first_form;
-mod first_report;
-mod item_walk;
-pub mod laws;
 mod plain;
 mod refusals;
 mod replay;
-mod sealed_items;
-mod statement_reader;
+mod running;
+mod summing;
 #[cfg(test)]
 mod tests;
 

@@ -1,53 +1,10 @@
-//! The command `plain` on worked examples, and the text of `generate`.
-ghost use Rattle.std.specs.Prelude.{◌<◌};
-
-use super::{Device, calls};
-use crate::mope_batch;
-use mope_base::{Items, MemorySink, MemorySource, OutOfMemory, Status};
-use std::alloc::Global;
+//! The command `plain` on worked examples, next to `replay` where both tell the same; and the text of `generate`.
+use super::{Device, HEAD, REPLAY, ends, gives};
+use mope_base::Status;
 use std::fmt::Write;
 use std::test::Fail;
 
-/// One table of one column, and one session so far.
-const HEAD: &str = "mope 1\nTABLE t (a)\nSESSION\n";
-
-/// The status of a call with these words, parted by one space, and the bytes that it wrote.
-pub(super) fn call(
-    alloc: Global,
-    line: &str,
-    input: &str,
-    from: Device,
-    to: Device,
-) -> Result<(Status, Vec<u8>), OutOfMemory>
-    requires from_some { 0 < from.piece }
-    requires to_some { 0 < to.piece }
-{
-    let mut words = Vec::new(alloc);
-    if !line.is_empty() {
-        for word in line.split(' ') {
-            words.push(String::from_str(alloc, word)?)?;
-        }
-    }
-    let bytes = Items::from_vec(input.as_bytes().to_vec(alloc)?);
-    let mut source = MemorySource::new(bytes, from.piece, calls(alloc, from.fails)?);
-    let mut sink = MemorySink::new(alloc, 1_000_000, to.piece, calls(alloc, to.fails)?)?;
-    let status = mope_batch(alloc, &words, &mut source, &mut sink);
-    Ok((status, sink.bytes().to_vec(alloc)?))
-}
-
-/// Whether a call on sound devices ends with this status and has written this text.
-fn gives(
-    rt: &HostRuntime,
-    line: &str,
-    input: &str,
-    status: Status,
-    text: &str,
-) -> Result<bool, OutOfMemory> {
-    let (ended, written) = call(rt.alloc(), line, input, Device::SOUND, Device::SOUND)?;
-    Ok(ended == status && written.as_slice() == text.as_bytes())
-}
-
-/// Lines of one session behind the head, and what `plain` tells of them.
+/// Lines of one session behind the head, and what `plain` tells of them, as `replay` does but for the nonce.
 static TOLD: [(&str, &str); 5] = [
     (
         "SELECT COUNT(*) FROM t\nSELECT MIN(a) FROM t\nEND\n",
@@ -75,8 +32,10 @@ static TOLD: [(&str, &str); 5] = [
 fn empty_table_inverted_between_limit_zero_rollback(rt: HostRuntime) -> Result<(), Fail> {
     for (lines, report) in TOLD {
         let input = format!(in rt.alloc(); "{HEAD}{lines}")?;
+        let replayed = format!(in rt.alloc(); "{report}nonce 4294967296\n")?;
         assert!(rt;
-            gives(&rt, "plain", &input, Status::Done, report)?,
+            gives(&rt, "plain", &input, Status::Done, report)?
+                && gives(&rt, REPLAY, &input, Status::Done, &replayed)?,
             "at {lines}"
         );
     }
@@ -122,7 +81,7 @@ fn full_table(rt: HostRuntime) -> Result<(), Fail> {
     Ok(())
 }
 
-/// Inputs that `plain` refuses, and the lines that say so.
+/// Inputs that `plain` and `replay` refuse, and the lines that say so.
 static REFUSED: [(&str, &str); 8] = [
     (
         "mope 1\nTABLE t (a)\nSESSION\nCOMMIT\nEND\n",
@@ -153,7 +112,8 @@ static REFUSED: [(&str, &str); 8] = [
 fn refusals(rt: HostRuntime) -> Result<(), Fail> {
     for (input, line) in REFUSED {
         assert!(rt;
-            gives(&rt, "plain", input, Status::Input, line)?,
+            gives(&rt, "plain", input, Status::Input, line)?
+                && gives(&rt, REPLAY, input, Status::Input, line)?,
             "at {line}"
         );
     }
@@ -168,23 +128,33 @@ fn generate_one(rt: HostRuntime) -> Result<(), Fail> {
     Ok(())
 }
 
-#[test]
-fn wrong_words(rt: HostRuntime) -> Result<(), Fail> {
-    assert!(rt; gives(&rt, "frob", "", Status::Usage, "error usage\n")?);
-    Ok(())
-}
+/// How the input and the output behave, and what becomes of a call of `plain`.
+static FAILING: [(Device, Device, Status, &str); 2] = [
+    (
+        Device { piece: 4, fails: 2 },
+        Device::SOUND,
+        Status::ReadFault,
+        "",
+    ),
+    (
+        Device::SOUND,
+        Device {
+            piece: 10,
+            fails: 2,
+        },
+        Status::WriteFault,
+        "turns 1,1\n",
+    ),
+];
 
 #[test]
 fn failing_devices(rt: HostRuntime) -> Result<(), Fail> {
     let input = "mope 1\nTABLE t (a)\nSESSION\nSELECT COUNT(*) FROM t\nSELECT MIN(a) FROM t\nEND\n";
-    let source = Device { piece: 4, fails: 2 };
-    let (status, written) = call(rt.alloc(), "plain", input, source, Device::SOUND)?;
-    assert!(rt; status == Status::ReadFault && written.is_empty());
-    let sink = Device {
-        piece: 10,
-        fails: 2,
-    };
-    let (status, written) = call(rt.alloc(), "plain", input, Device::SOUND, sink)?;
-    assert!(rt; status == Status::WriteFault && written.as_slice() == b"turns 1,1\n".as_slice());
+    for (from, to, status, text) in FAILING {
+        assert!(rt;
+            ends(&rt, "plain", input, from, to, status, text)?,
+            "at {text}"
+        );
+    }
     Ok(())
 }

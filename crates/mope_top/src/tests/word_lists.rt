@@ -1,20 +1,31 @@
 //! Lists of words, and the status that each gives.
-use super::plain_command::call;
-use super::{DIGITS, DIGITS_63, Device, FIRST_RUN};
+use super::{Device, FIRST_RUN, call};
 use mope_base::{OutOfMemory, Status};
+use server_conn::NoWatch;
 use std::alloc::Global;
+
+const DIGITS: &str = "0000000000000000000000000000000000000000000000000000000000000000";
+
+const DIGITS_63: &str = "000000000000000000000000000000000000000000000000000000000000000";
 
 /// 64 digits, of which some are capital letters.
 const CAPITALS: &str = "ABCDEF0000000000000000000000000000000000000000000000000000000000";
 
 /// Lists that order something. `K`, `U` and `FEW` stand for digits of a key.
-static DONE: [&str; 25] = [
+static DONE: [&str; 34] = [
     "replay --key K",
     "replay --key U",
     "--key K replay",
     "replay --key=K",
     "--key=K -- replay",
     "replay --key K --",
+    "replay --key K --view",
+    "replay --view --key K --mode ordinary",
+    "--mode=same-time replay --key K",
+    "replay --key K --schedule round",
+    "replay --schedule=1,64,1 --key K",
+    "replay --key K --first-nonce 0",
+    "replay --first-nonce=9223372036854775808 --key K",
     "plain",
     "plain --",
     "-- plain",
@@ -34,10 +45,12 @@ static DONE: [&str; 25] = [
     "generate --number 5 --text --transactions 2 --mode ordinary",
     "generate --number 5 --text --transactions 2 --mode=same-time",
     "--number 5 --text --transactions=3 -- generate",
+    "generate --number 3 --sessions 2 --transactions 3",
+    "generate --transactions 2 --number=4 --mode same-time",
 ];
 
 /// Lists that order nothing. The first has no words.
-static USAGE: [&str; 60] = [
+static USAGE: [&str; 65] = [
     "",
     "frob",
     "help",
@@ -52,10 +65,15 @@ static USAGE: [&str; 60] = [
     "replay --key K --key K",
     "replay --key K extra",
     "replay -- --key K",
-    "replay --key K --view",
-    "replay --key K --mode ordinary",
-    "replay --key K --schedule round",
-    "replay --key K --first-nonce 0",
+    "replay --key K --view --view",
+    "replay --key K --mode same_time",
+    "replay --key K --schedule rounds",
+    "replay --key K --first-nonce 9223372036854775809",
+    "replay --key K --first-nonce 00",
+    "replay --key K --schedule=",
+    "replay --key K --schedule 1,65",
+    "replay --key K --view=yes",
+    "replay --key K --text",
     "replay --key K --turns 1",
     "run --key K",
     "twin",
@@ -82,7 +100,7 @@ static USAGE: [&str; 60] = [
     "plain --number 0",
     "generate",
     "generate --text",
-    "generate --number 0",
+    "generate --number 0 --view",
     "generate --number 0 --text=yes",
     "generate --number= --text",
     "generate --number 00 --text",
@@ -124,7 +142,14 @@ fn with_digits(alloc: Global, line: &str) -> Result<String, OutOfMemory> {
 /// The status that a line of words gives, on an input that every command takes.
 fn status_of(alloc: Global, line: &str) -> Result<Status, OutOfMemory> {
     let words = with_digits(alloc, line)?;
-    let (status, _written) = call(alloc, &words, FIRST_RUN, Device::SOUND, Device::SOUND)?;
+    let (status, _written) = call(
+        alloc,
+        &words,
+        FIRST_RUN,
+        Device::SOUND,
+        Device::SOUND,
+        &mut NoWatch,
+    )?;
     Ok(status)
 }
 

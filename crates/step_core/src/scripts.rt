@@ -61,7 +61,7 @@ fn copy_act(alloc: Global, act: &Act) -> Result<Act, OutOfMemory>
 fn copy_acts(alloc: Global, acts: &[Act]) -> Result<Items<Act>, OutOfMemory>
     ensures { IfOk result (λ copies. copies ≡ acts.now) }
 {
-    let mut copies = Vec::new(alloc);
+    let mut copies = Vec::with_capacity(alloc, acts.len())?;
     'acts: for i in 0..acts.len() {
         let act = copy_act(alloc, &acts[i])?;
         copies.push(act)?;
@@ -91,7 +91,7 @@ fn copy_piece(alloc: Global, piece: &Piece) -> Result<Piece, OutOfMemory>
 pub(crate) fn copy_script(alloc: Global, script: &[Piece]) -> Result<Items<Piece>, OutOfMemory>
     ensures { IfOk result (λ copy. copy ≡ script.now) }
 {
-    let mut copies = Vec::new(alloc);
+    let mut copies = Vec::with_capacity(alloc, script.len())?;
     'pieces: for i in 0..script.len() {
         let piece = copy_piece(alloc, &script[i])?;
         copies.push(piece)?;

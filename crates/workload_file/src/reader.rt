@@ -225,6 +225,15 @@ fn with_rebuild(
     }
 }
 
+/// The statement of a transaction of one, in room for no more: most transactions of a file are such.
+fn alone(alloc: Global, act: Act) -> Result<Items<Act>, OutOfMemory>
+    ensures { IfOk result (λ acts. acts ≡ act ∷ []) }
+{
+    let mut acts = Vec::with_capacity(alloc, 1)?;
+    acts.push(act)?;
+    Ok(Items::from_vec(acts))
+}
+
 #[tactic(auto, unfolding(crate::specs::Steps::with_act))]
 fn with_act(
     alloc: Global,
@@ -245,8 +254,7 @@ fn with_act(
                 }))
             }
             None => {
-                let mut acts = Items::new(alloc);
-                acts.push(act)?;
+                let acts = alone(alloc, act)?;
                 with_piece(
                     pieces,
                     Piece::Txn {

@@ -9,7 +9,7 @@ mod tables;
 
 pub use fields::Field;
 pub use rows::{Cut, Kind};
-pub use tables::{Kinds, check_kinds};
+pub use tables::{Kinds, check_kinds, cut_within};
 
 #[cfg(test)]
 mod tests;

@@ -91,10 +91,11 @@ impl<const N: usize> Kinds<N> {
     }
 }
 
-/// Whether the bytes are as many as a message of this kind has.
+/// The kind, where the bytes are as many as a message of it has. Otherwise the first of these faults:
+/// fewer bytes than the head or the whole message, or more. Their first byte is not looked at.
 #[tactic(auto, unfolding(crate::specs::Tables::cut_within))]
-fn cut_within(kind: &Kind, bytes: &[u8]) -> Result<Kind, Cut>
-    requires { IsTrue (is_row kind.now) }
+pub fn cut_within(kind: &Kind, bytes: &[u8]) -> Result<Kind, Cut>
+    requires row { IsTrue (is_row kind.now) }
     ensures first_fault { result ≡ cut_within kind.now bytes.now }
     ensures same { IfOk result (λ it. it ≡ kind.now) }
     ensures headed { OnOk result (kind.now.head ≤ length bytes.now) }

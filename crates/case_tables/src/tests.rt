@@ -1,5 +1,5 @@
 //! Tests of tables of kinds and of fields, with ample memory.
-use crate::{Cut, Field, Kind, check_kinds, put_fields, take_fields};
+use crate::{Cut, Field, Kind, check_kinds, cut_within, put_fields, take_fields};
 use std::alloc::{AllocError, Global};
 use std::process::Abort;
 use std::test::Fail;
@@ -103,6 +103,18 @@ fn first_faults_of_bytes(rt: HostRuntime) {
         ),
     ] {
         assert_eq!(rt; kinds.check(bytes), want, "at {bytes:?}");
+    }
+}
+
+#[test]
+fn first_faults_by_one_row(rt: HostRuntime) {
+    for (bytes, want) in [
+        (&b"\x05\x00"[..], Err(Cut::Short(2))),
+        (&b"\x05\x00\x01\x00"[..], Err(Cut::Short(4))),
+        (&b"\x05\x00\x00"[..], Ok(SHORT_LIST)),
+        (&b"\x05\x00\x00\x00"[..], Err(Cut::Length(3))),
+    ] {
+        assert_eq!(rt; cut_within(&SHORT_LIST, bytes), want, "at {bytes:?}");
     }
 }
 

@@ -8,7 +8,7 @@ use crate::rules::{
     is_wrong_column, is_wrong_ended_table, is_wrong_limit, is_wrong_limited, is_wrong_no_value,
     is_wrong_order, is_wrong_order_column, is_wrong_query_width, is_wrong_target, is_wrong_width,
 };
-use crate::table::all_kinds;
+use crate::table::first_cut;
 use byteorder::{BigEndian, ByteOrder};
 use case_tables::{Cut, Kind};
 use mope_base::OutOfMemory;
@@ -51,7 +51,7 @@ fn request_cut(bytes: &[u8]) -> Result<Kind, Cut>
     if *first > 8 {
         return Err(Cut::Kind(0));
     }
-    all_kinds().check(bytes)
+    first_cut(bytes)
 }
 
 fn reply_cut(bytes: &[u8]) -> Result<Kind, Cut>
@@ -64,7 +64,7 @@ fn reply_cut(bytes: &[u8]) -> Result<Kind, Cut>
     if *first < 9 {
         return Err(Cut::Kind(0));
     }
-    all_kinds().check(bytes)
+    first_cut(bytes)
 }
 
 /// The fault of bytes in which the table of kinds found one, or else the first wrong field.

@@ -1,7 +1,6 @@
-use Rattle.std.proofs.Common.{sym, ap, ◌∙◌}
-use Rattle.case_tables.specs.Tables.{cut}
+use Rattle.std.proofs.Common.{sym, ◌∙◌}
 use Rattle.walk_proto.specs.Kinds.{all_kinds, reply_kinds}
-use Rattle.walk_proto.proofs.Cuts.{same_cut, no_kind, no_bytes, replies_last, no_reply_below, fields_ok}
+use Rattle.walk_proto.proofs.Cuts.{same_cut, no_kind, no_bytes, replies_last, no_reply_below}
 use Rattle.walk_proto.proofs.faults.reply_cut.Goals as goal
 
 pub returns-in_default-clause-first_fault : goal.returns-in_default-clause-first_fault
@@ -11,7 +10,4 @@ pub returns-then-first-lt9-clause-first_fault : goal.returns-then-first-lt9-clau
 returns-then-first-lt9-clause-first_fault c = sym (no_kind reply_kinds c.args.bytes.now c.in-len1-up.len_at_least (no_reply_below _ c.if-first-lt9.true))
 
 pub returns-clause-first_fault : goal.returns-clause-first_fault
-returns-clause-first_fault c = c.check.ensures.first_fault ∙ ap (λ rows. cut rows c.args.bytes.now) c.all_kinds.ensures ∙ same_cut all_kinds reply_kinds c.args.bytes.now (replies_last _ c.if-first-lt9.false)
-
-pub returns-clause-fields : goal.returns-clause-fields
-returns-clause-fields c = fields_ok c.args.bytes.now c.all_kinds.result c.check.result c.all_kinds.ensures c.check.ensures.message
+returns-clause-first_fault c = c.first_cut.ensures.first_fault ∙ same_cut all_kinds reply_kinds c.args.bytes.now (replies_last _ c.if-first-lt9.false)

@@ -1,7 +1,6 @@
-use Rattle.std.proofs.Common.{sym, ap, ◌∙◌}
-use Rattle.case_tables.specs.Tables.{cut}
+use Rattle.std.proofs.Common.{sym, ◌∙◌}
 use Rattle.walk_proto.specs.Kinds.{all_kinds, request_kinds}
-use Rattle.walk_proto.proofs.Cuts.{same_cut, no_kind, no_bytes, requests_first, no_request_zero, no_request_above, fields_ok}
+use Rattle.walk_proto.proofs.Cuts.{same_cut, no_kind, no_bytes, requests_first, no_request_zero, no_request_above}
 use Rattle.walk_proto.proofs.faults.request_cut.Goals as goal
 
 pub returns-in_default-clause-first_fault : goal.returns-in_default-clause-first_fault
@@ -14,7 +13,4 @@ pub returns-then-first-gt8-clause-first_fault : goal.returns-then-first-gt8-clau
 returns-then-first-gt8-clause-first_fault c = sym (no_kind request_kinds c.args.bytes.now c.in-len1-up.len_at_least (no_request_above _ c.if-first-gt8.true))
 
 pub returns-clause-first_fault : goal.returns-clause-first_fault
-returns-clause-first_fault c = c.check.ensures.first_fault ∙ ap (λ rows. cut rows c.args.bytes.now) c.all_kinds.ensures ∙ same_cut all_kinds request_kinds c.args.bytes.now (requests_first _ c.if-first-lt1.false c.if-first-gt8.false)
-
-pub returns-clause-fields : goal.returns-clause-fields
-returns-clause-fields c = fields_ok c.args.bytes.now c.all_kinds.result c.check.result c.all_kinds.ensures c.check.ensures.message
+returns-clause-first_fault c = c.first_cut.ensures.first_fault ∙ same_cut all_kinds request_kinds c.args.bytes.now (requests_first _ c.if-first-lt1.false c.if-first-gt8.false)

@@ -1,5 +1,5 @@
 -- Each request to a transaction as `serve` has it.
-use Rattle.std.proofs.Common.{◌≡◌, ℕ, zero, suc, ◌+◌, ◌<◌, ◌==◌, Bool, true, false, not, List, [], ◌∷◌, ◌++◌, length, Option, Some, None, Result, Ok, Err, IfOk, refl, ap, sym, subst, ◌∙◌, arith, is_some}
+use Rattle.std.proofs.Common.{◌≡◌, ℕ, zero, suc, ◌+◌, ◌<◌, ◌==◌, Bool, true, false, not, List, [], ◌∷◌, length, Option, Some, None, Result, Ok, Err, IfOk, refl, ap, sym, subst, ◌∙◌, arith, is_some, vec_capacity}
 use Rattle.std.proofs.Math.Dec.{eqb-suc-zero}
 use Rattle.mope_base.specs.declared.numbers.TableNo.{TableNo}
 use Rattle.mope_base.specs.declared.numbers.ColNo.{ColNo}
@@ -12,7 +12,7 @@ use Rattle.table_model.specs.Stores.{Shelf}
 use Rattle.table_model.specs.Operations.{shelf_at, rank_ops_on}
 use Rattle.versions.specs.declared.op.Op.{Op}
 use Rattle.versions.specs.Databases.{Database}
-use Rattle.versions.specs.Operations.{rank_ops, HasColumn}
+use Rattle.versions.specs.Operations.{rank_ops}
 use Rattle.walk_proto.specs.declared.messages.Asked.{Asked}
 use Rattle.walk_proto.specs.declared.messages.How.TheVariants as how
 use Rattle.walk_proto.specs.declared.messages.Reply.TheVariants as reply
@@ -24,11 +24,12 @@ use Rattle.server_conn.specs.declared.came.Due.{Due as Turn}
 use Rattle.server_conn.specs.declared.came.Due.TheVariants as turn
 use Rattle.server_conn.specs.declared.txn.Txn.{Txn}
 use Rattle.server_conn.specs.declared.txn.Walk.{Walk as Going}
-use Rattle.server_conn.specs.Connections.{Held, Walk, Step, Conn, idle, begins, holds, awaits, commit, install}
-use Rattle.server_conn.specs.Checks.{reason_or, first_failing, checks, refusal, own, lacks_table, lacks_column, is_fresh}
+use Rattle.server_conn.specs.Connections.{Held, Walk, Step, Conn, idle, begins, holds, awaits}
+use Rattle.server_conn.specs.Checks.{reason_or, first_failing, checks, refusal, own, lacks_column, is_fresh}
 use Rattle.server_conn.specs.Handling.{IsReady, IsStep}
-use Rattle.server_conn.specs.Inside.{shelves_in, held_in, walk_if, refused_by, step_due, step_by, due_of, IsTxn, IsReadyFor}
+use Rattle.server_conn.specs.Inside.{shelves_in, held_in, walk_of, walk_if, shut, refused_by, step_due, step_by, due_of, IsOpen, IsTxn, IsReadyFor}
 use Rattle.server_conn.specs.Serving.{step_to, placed_at, come_to, walk_started, stepped_from, stepped, found, inserted, queried, refused, served_unless, effect, table_in, closed, committed, ended_by, serve}
+use Rattle.server_conn.proofs.Going.{shut-txn, shut-held, shut-open, shut-stepped, shut-found}
 use Rattle.server_conn.proofs.Judging.{not-lacking}
 use Rattle.server_conn.proofs.Passing.{serve-refused, serve-effect, passed, failed, went_on, closed-is, true-is}
 use Rattle.std.proofs.lemmas.Bool.{leb-false}
@@ -51,23 +52,36 @@ walk-some : (t : Txn) (w : Going) → t.walk ≡ Some w → is_some (held_in t).
 unfolding held_in walk_if
 walk-some t w is = ap (λ (k : Option Going). is_some (walk_if (shelves_in t) k)) is
 
-pub go-none : (t : Txn) (side : Side) (c : Came) → c ≡ refused_by 4 0 → t.walk ≡ None → step_by c (held_in t) ≡ serve (request.Go side) (holds (held_in t))
+-- the walk was taken out of the transaction t, which left u
+pub go-none : (t u : Txn) (side : Side) (c : Came) → u ≡ shut t → t.walk ≡ None → c ≡ refused_by 4 0 → step_by c (held_in u) ≡ serve (request.Go side) (holds (held_in t))
 unfolding refusal checks first_failing table_in
-go-none t side c is none =
-    refused-step (request.Go side) (held_in t) 4 0 c is refl (sym (failed _ _ _ (ap (λ (k : Option Walk). not (is_some k)) (walk-none t none))))
+go-none t u side c left none is =
+    ap (step_by c) (ap held_in left ∙ shut-held t none)
+    ∙ refused-step (request.Go side) (held_in t) 4 0 c is refl (sym (failed _ _ _ (ap (λ (k : Option Walk). not (is_some k)) (walk-none t none))))
 
-pub go-some : (t : Txn) (side : Side) (w : Going) (c : Step) → t.walk ≡ Some w → c ≡ stepped side (held_in t).walk (held_in t) → c ≡ serve (request.Go side) (holds (held_in t))
+pub go-some : (t u : Txn) (side : Side) (w : Going) (c : Step) → u ≡ shut t → t.walk ≡ Some w → c ≡ stepped side (Some (walk_of (shelves_in u) w)) (held_in u) → c ≡ serve (request.Go side) (holds (held_in t))
 unfolding refusal checks first_failing effect
-go-some t side w c is step = effect-step (request.Go side) (held_in t) c (sym (went_on _ _ _ (ap not (walk-some t w is)))) step
+go-some t u side w c left is step =
+    effect-step (request.Go side) (held_in t) c (sym (went_on _ _ _ (ap not (walk-some t w is))))
+    (step ∙ ap (λ (k : Txn). stepped side (Some (walk_of (shelves_in k) w)) (held_in k)) left ∙ shut-stepped t w side is)
 
-pub found-none : (t : Txn) (c : Came) → c ≡ refused_by 4 0 → t.walk ≡ None → step_by c (held_in t) ≡ serve request.Found (holds (held_in t))
+pub found-none : (t u : Txn) (c : Came) → u ≡ shut t → t.walk ≡ None → c ≡ refused_by 4 0 → step_by c (held_in u) ≡ serve request.Found (holds (held_in t))
 unfolding refusal checks first_failing table_in
-found-none t c is none =
-    refused-step request.Found (held_in t) 4 0 c is refl (sym (failed _ _ _ (ap (λ (k : Option Walk). not (is_some k)) (walk-none t none))))
+found-none t u c left none is =
+    ap (step_by c) (ap held_in left ∙ shut-held t none)
+    ∙ refused-step request.Found (held_in t) 4 0 c is refl (sym (failed _ _ _ (ap (λ (k : Option Walk). not (is_some k)) (walk-none t none))))
 
-pub found-some : (t : Txn) (w : Going) (c : Step) → t.walk ≡ Some w → c ≡ found (held_in t).walk (held_in t) → c ≡ serve request.Found (holds (held_in t))
+pub found-some : (t u : Txn) (w : Going) (c : Step) → u ≡ shut t → t.walk ≡ Some w → c ≡ found (Some (walk_of (shelves_in u) w)) (held_in u) → c ≡ serve request.Found (holds (held_in t))
 unfolding refusal checks first_failing effect
-found-some t w c is step = effect-step request.Found (held_in t) c (sym (went_on _ _ _ (ap not (walk-some t w is)))) step
+found-some t u w c left is step =
+    effect-step request.Found (held_in t) c (sym (went_on _ _ _ (ap not (walk-some t w is))))
+    (step ∙ ap (λ (k : Txn). found (Some (walk_of (shelves_in k) w)) (held_in k)) left ∙ shut-found t w is)
+
+pub left-txn : (t u : Txn) → u ≡ shut t → IsTxn t → IsTxn u
+left-txn t u left txn = subst IsTxn (sym left) (shut-txn t txn)
+
+pub left-open : (t u : Txn) (w : Going) → u ≡ shut t → IsTxn t → t.walk ≡ Some w → IsOpen (shelves_in u) (length u.marks.items) (vec_capacity u.marks) w
+left-open t u w left txn is = subst (λ (k : Txn). IsOpen (shelves_in k) (length k.marks.items) (vec_capacity k.marks) w) (sym left) (shut-open t w txn is)
 
 pub begin-step : (t : Txn) (c : Came) → c ≡ refused_by 2 0 → step_by c (held_in t) ≡ serve request.Begin (holds (held_in t))
 unfolding refusal checks first_failing reason_or table_in

@@ -1,90 +1,23 @@
 -- Walks: what stands at the end of a way, one step further, and the transaction after each step.
-use Rattle.std.proofs.Common.{◌≡◌, ℕ, zero, suc, ◌+◌, ◌<◌, ◌≤◌, max, List, [], ◌∷◌, ◌++◌, length, get_or, map, slice_get, Option, Some, None, IsSome, MatchOption, refl, ap, sym, subst, ◌∙◌, arith, add-zero, vec_capacity}
-use Rattle.std.specs.Option.{option_map}
+use Rattle.std.proofs.Common.{◌≡◌, ℕ, suc, ◌+◌, ◌<◌, ◌≤◌, List, [], ◌∷◌, ◌++◌, length, Option, Some, refl, ap, sym, subst, ◌∙◌, arith, add-zero}
 use Rattle.mope_base.specs.declared.body.Body.{Body}
-use Rattle.mope_base.specs.declared.numbers.TableNo.{TableNo}
-use Rattle.mope_base.specs.declared.numbers.ColNo.{ColNo}
 use Rattle.mope_base.specs.Lists.{Each}
-use Rattle.path_code.specs.Ways.{way}
-use Rattle.path_code.specs.declared.paths.Path.{Path}
-use Rattle.tree_model.specs.declared.Place.{Place}
-use Rattle.tree_model.specs.declared.Place.TheVariants.{Found, Gap}
+use Rattle.tree_model.specs.declared.Place.TheVariants.{Gap}
 use Rattle.tree_model.specs.declared.Side.{Side}
 use Rattle.tree_model.specs.declared.Side.TheVariants.{Left, Right}
-use Rattle.tree_model.specs.Trees.{Tree, leaf, node, size, height, inorder, path, IsPlaceOf}
+use Rattle.tree_model.specs.Trees.{Tree, leaf, node, size, height}
 use Rattle.tree_model.specs.Insertion.{child, tree_at}
 use Rattle.tree_model.specs.Items.{Item}
-use Rattle.tree_model.specs.Parts.{beside, before, IsWay, LeadsToItem, LeadsToGap}
-use Rattle.tree_model.specs.Columns.{Column, items_of}
-use Rattle.tree_model.proofs.Ways.{length-inorder}
-use Rattle.ope_tree.specs.Conditions.{paired}
-use Rattle.ope_tree.specs.Standing.{IsPlaceAt}
-use Rattle.enc_table.proofs.Options.{some_unless, told_of_some}
+use Rattle.tree_model.specs.Parts.{beside, before, IsWay, LeadsToGap}
+use Rattle.ope_tree.specs.Standing.{root_item}
 use Rattle.tree_model.proofs.GraftPaths.{size-node, size-leaf}
-use Rattle.tree_model.proofs.Parts.{item_at, gap_at, part-within, way_of_item, way_of_gap}
+use Rattle.tree_model.proofs.Parts.{part-within}
 use Rattle.table_model.specs.Stores.{Shelf}
-use Rattle.table_model.specs.Operations.{shelf_at}
-use Rattle.table_model.specs.Soundness.{column_at}
 use Rattle.walk_proto.specs.declared.messages.Reply.TheVariants as reply
-use Rattle.server_conn.specs.declared.came.Came.TheVariants as came
-use Rattle.server_conn.specs.declared.txn.Txn.{Txn}
 use Rattle.server_conn.specs.declared.txn.Walk.{Walk as Going}
-use Rattle.server_conn.specs.declared.txn.Mark.{Mark as Placed}
-use Rattle.server_conn.specs.Connections.{Held, Mark, Walk, Step, holds}
-use Rattle.server_conn.specs.Inside.{laid_over, shelves_in, tree_in, held_in, mark_of, walk_of, walk_if, IsMarkIn, IsWalkIn, IsOpen, IsWalkIf, IsTxn, IsItemAt, IsGapAt}
-use Rattle.server_conn.specs.Serving.{step_to, placed_at, come_to, stepped_from, stepped, in_front_of_top, found, walk_started}
-
--- ---- ways
-
--- a way leads to a place
-record HasPlace (A : Type 0) (t : Tree A) (steps : List Side) : Type 0 where
-  place : Place
-  within : IsPlaceOf (size t) place
-  is : path t place ≡ steps
-
-has-place-by : {A : Type 0} (t u : Tree A) (steps : List Side) → IsWay steps t → tree_at steps t ≡ u → HasPlace A t steps
-unfolding IsPlaceOf
-has-place-by {A} t leaf steps is_way at =
-    record {
-      place = Gap (before steps t);
-      within = omega (arith, part-within steps t is_way);
-      is = sym (way_of_gap t steps (before steps t) (record { is_way = is_way; at = at; rank_is = refl }));
-    }
-has-place-by {A} t (node l x r) steps is_way at =
-    record {
-      place = Found (before steps t + size l);
-      within = let e : size (tree_at steps t) ≡ size l + suc (size r) = ap size at ∙ size-node l x r in omega (arith, part-within steps t is_way, e);
-      is = sym (way_of_item t steps (before steps t + size l) x (record { is_way = is_way; left = l; right = r; at = at; rank_is = refl }));
-    }
-
-pub names-some : {A : Type 0} (t : Tree A) (steps : List Side) → IsWay steps t → ((place : Place) → IsPlaceOf (size t) place → ¬ (path t place ≡ steps)) → ⊥
-names-some t steps is_way none = let has = has-place-by t (tree_at steps t) steps is_way refl in none has.place has.within has.is
-
-pub gap-stands : (t : Tree (Item Body)) (steps : List Side) (rank : ℕ) → IsPlaceOf (size t) (Gap rank) → path t (Gap rank) ≡ steps → IsGapAt t steps rank
-unfolding IsPlaceOf
-gap-stands t steps rank within is =
-    let to = subst (λ (w : List Side). LeadsToGap (Item Body) t w rank) is (gap_at t rank within) in
-    record { at = to.at; rank_is = to.rank_is; within = within }
-
-got-is : {A : Type 0} (xs : List A) (i : ℕ) (x d : A) → slice_get xs i ≡ Some x → get_or xs i d ≡ x
-got-is [] zero x d got = cc
-got-is [] (suc i) x d got = cc
-got-is (y ∷ xs) zero x d got = cc
-got-is (y ∷ xs) (suc i) x d got = got-is xs i x d got
-
-pub item-stands : (t : Tree (Item Body)) (steps : List Side) (rank : ℕ) (body : Body) (count : ℕ) → IsPlaceOf (size t) (Found rank) → path t (Found rank) ≡ steps → slice_get (inorder t) rank ≡ Some (record { body = body; count = count }) → IsItemAt t steps rank body
-unfolding IsPlaceOf
-item-stands t steps rank body count within is got =
-    let x : Item Body = record { body = body; count = count } in
-    let to = subst (λ (w : List Side). LeadsToItem (Item Body) t w rank (get_or (inorder t) rank x)) is (item_at t rank x within) in
-    record {
-      left = to.left;
-      count = count;
-      right = to.right;
-      at = to.at ∙ ap (λ (y : Item Body). node to.left y to.right) (got-is (inorder t) rank x x got);
-      rank_is = to.rank_is;
-      within = within;
-    }
+use Rattle.server_conn.specs.Connections.{Held, holds}
+use Rattle.server_conn.specs.Inside.{IsOpen, IsWalkIf}
+use Rattle.server_conn.specs.Serving.{step_to, placed_at, come_to, stepped_from, in_front_of_top}
 
 -- one step further from an item
 
@@ -153,24 +86,20 @@ pub open-walk : (shelves : List (Shelf Body)) (marks room : ℕ) (walk : Option 
 unfolding IsWalkIf
 open-walk shelves marks room walk w is if = subst (IsWalkIf shelves marks room) is if
 
--- ---- what a tree tells of a way
+-- ---- what stands at the end of a way
 
-got-none : {A : Type 0} (xs : List A) (i : ℕ) → i < length xs → slice_get xs i ≡ None → ⊥
-got-none [] i h none = omega (arith, h)
-got-none (x ∷ xs) zero h none = cc
-got-none (x ∷ xs) (suc i) h none = got-none xs i (omega (arith, h)) none
+pub record IsNodeAt (A : Type 0) (t : Tree A) (x : A) : Type 0 where
+  pub left : Tree A
+  pub right : Tree A
+  pub is : t ≡ node left x right
 
-pub item-there : (c : Column Body) (rank : ℕ) (r : Option (Body × ℕ)) → rank < size c.tree → slice_get (items_of c) rank ≡ option_map paired r → IsSome r
-unfolding items_of
-item-there c rank (Some p) h is = refl
-item-there c rank None h is = absurd (got-none (inorder c.tree) rank (omega (arith, h, length-inorder c.tree)) is)
+pub root-node : {A : Type 0} (t : Tree A) (x : A) → root_item t ≡ Some x → IsNodeAt A t x
+unfolding root_item
+root-node leaf x is = cc
+root-node (node l y r) x is = record { left = l; right = r; is = ap (λ (z : _). node l z r) (let e : y ≡ x = cc in e) }
 
-pub item-is : (c : Column Body) (rank : ℕ) (r : Option (Body × ℕ)) (p : Body × ℕ) → r ≡ Some p → slice_get (items_of c) rank ≡ option_map paired r → slice_get (inorder c.tree) rank ≡ Some (record { body = p.0; count = p.1 })
-unfolding items_of
-item-is c rank r p some is = is ∙ ap (λ (o : Option (Body × ℕ)). option_map paired o) some
+pub root-some : {A : Type 0} (t : Tree A) (x : A) → root_item t ≡ Some x → 0 < size t
+root-some t x is = let at = root-node t x is in let e = ap size at.is ∙ size-node at.left x at.right in omega (arith, e)
 
-pub place-at : (t : Tree (Item Body)) (steps : List Side) (r : Option Place) (p : Place) → MatchOption r ((place : Place) → IsPlaceOf (size t) place → ¬ (path t place ≡ steps)) (λ place. IsPlaceAt (Item Body) t steps place) → r ≡ Some p → IsPlaceAt (Item Body) t steps p
-place-at t steps r p told is = told_of_some ((place : Place) → IsPlaceOf (size t) place → ¬ (path t place ≡ steps)) (λ (place : Place). IsPlaceAt (Item Body) t steps place) r p told is
-
-pub place-there : (t : Tree (Item Body)) (steps : List Side) (r : Option Place) → IsWay steps t → MatchOption r ((place : Place) → IsPlaceOf (size t) place → ¬ (path t place ≡ steps)) (λ place. IsPlaceAt (Item Body) t steps place) → IsSome r
-place-there t steps r is_way told = some_unless ((place : Place) → IsPlaceOf (size t) place → ¬ (path t place ≡ steps)) (λ (place : Place). IsPlaceAt (Item Body) t steps place) r told (names-some t steps is_way)
+pub gap-within : {A : Type 0} (t : Tree A) (steps : List Side) (rank : ℕ) → LeadsToGap A t steps rank → rank ≤ size t
+gap-within t steps rank gap = omega (arith, part-within steps t gap.is_way, gap.rank_is)

@@ -3,8 +3,7 @@ use Rattle.std.specs.Prelude.{◌≡◌, ◌≢◌, ◌||◌, leb, ℕ, zero, su
 use Rattle.mope_base.specs.declared.body.Body.{Body}
 use Rattle.mope_base.specs.declared.numbers.TableNo.{TableNo}
 use Rattle.mope_base.specs.Lists.{Each}
-use Rattle.tree_model.specs.declared.Side.{Side}
-use Rattle.tree_model.specs.Trees.{Tree, leaf, node, size, IsPlaceOf}
+use Rattle.tree_model.specs.Trees.{Tree, size, IsPlaceOf}
 use Rattle.tree_model.specs.Insertion.{tree_at}
 use Rattle.tree_model.specs.Items.{Item}
 use Rattle.tree_model.specs.Parts.{before, IsWay}
@@ -12,6 +11,7 @@ use Rattle.path_code.specs.Ways.{way}
 use Rattle.table_model.specs.Stores.{Shelf}
 use Rattle.table_model.specs.Operations.{shelf_at, rank_ops_on}
 use Rattle.table_model.specs.Soundness.{column_at}
+use Rattle.ope_tree.specs.Cursors.{IsCursorAt}
 use Rattle.enc_table.specs.Seen.{Seen as Table, IsTable}
 use Rattle.versions.specs.declared.op.Op.{Op}
 use Rattle.versions.specs.Databases.{Database, IsDatabase, IsMember}
@@ -26,8 +26,6 @@ use Rattle.server_conn.specs.declared.stage.Stage.TheVariants as stage
 use Rattle.server_conn.specs.declared.txn.Mark.{Mark as Placed}
 use Rattle.server_conn.specs.declared.txn.Txn.{Txn}
 use Rattle.server_conn.specs.declared.txn.Walk.{Walk as Going}
-use Rattle.server_conn.specs.declared.walking.Spot.{Spot}
-use Rattle.server_conn.specs.declared.walking.Spot.TheVariants as spot
 use Rattle.server_conn.specs.Connections.{Mark, Walk, Held, Due, commit, install, Conn, idle, begins, holds, awaits, replies, wants_commit, wants_install, Step}
 use Rattle.server_conn.specs.Handling.{IsDone, IsReady}
 use Rattle.server_conn.specs.Serving.{step_to}
@@ -78,6 +76,10 @@ held_in t = record {
   walk = walk_if (shelves_in t) t.walk;
 }
 
+-- without an open walk
+unfoldable pub shut : Txn → Txn
+shut t = record t { walk = None }
+
 -- one of these numbers is none of a column of a table so wide
 unfoldable pub lacks_in : ℕ → List ℕ → Bool
 lacks_in width [] = false
@@ -96,10 +98,12 @@ pub record IsMarkIn (shelves : List (Shelf Body)) (m : Placed) : Type 0 where
   pub column_there : m.column.0 < length (shelf_at shelves m.table.0).columns
   pub is_place : IsPlaceOf (size (tree_in shelves m.table.0 m.column.0)) m.place
 
--- a walk's way leads to an item
+-- a walk's way leads to an item, at which it stands in its share of the column's tree
 pub record IsWalkIn (shelves : List (Shelf Body)) (w : Going) : Type 0 where
   pub table_there : w.table.0 < length shelves
   pub column_there : w.column.0 < length (shelf_at shelves w.table.0).columns
+  pub shares : w.tree.column ≡ column_at (shelf_at shelves w.table.0).columns w.column.0
+  pub stands : IsCursorAt w.tree (way w.path) w.cursor
   pub is_way : IsWay (way w.path) (tree_in shelves w.table.0 w.column.0)
   pub some : 0 < size (tree_at (way w.path) (tree_in shelves w.table.0 w.column.0))
 
@@ -155,24 +159,6 @@ pub record IsTableOf (h : Held) (table : ℕ) (t : Table) : Type 0 where
   pub rows : t.limit ≡ h.base.limit
   pub fresh : t.spent ≡ false
   pub is_table : IsTable t
-
--- what stands at the end of a way: an item with this body, or a gap
-pub record IsItemAt (t : Tree (Item Body)) (steps : List Side) (rank : ℕ) (body : Body) : Type 0 where
-  pub left : Tree (Item Body)
-  pub count : ℕ
-  pub right : Tree (Item Body)
-  pub at : tree_at steps t ≡ node left (record { body = body; count = count }) right
-  pub rank_is : before steps t + size left ≡ rank
-  pub within : rank < size t
-
-pub record IsGapAt (t : Tree (Item Body)) (steps : List Side) (rank : ℕ) : Type 0 where
-  pub at : tree_at steps t ≡ leaf
-  pub rank_is : before steps t ≡ rank
-  pub within : rank ≤ size t
-
-unfoldable pub IsSpot : Tree (Item Body) → List Side → Spot → Type 0
-IsSpot t steps (spot.Item rank body) = IsItemAt t steps rank body
-IsSpot t steps (spot.Gap rank) = IsGapAt t steps rank
 
 -- ---- what comes of a request
 

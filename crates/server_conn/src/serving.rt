@@ -53,7 +53,7 @@ fn serve_go(txn: &mut Txn, side: Side) -> Came
     ensures step { step_by result (held_in txn.new) ≡ serve (request.Go side) (holds (held_in txn.old)) }
     ensures txn { IsTxn txn.new }
 {
-    match txn.walk {
+    match txn.take_walk() {
         None => refused(NO_WALK, 0),
         Some(walk) => step(txn, walk, side),
     }
@@ -64,7 +64,7 @@ fn serve_found(txn: &mut Txn) -> Came
     ensures step { step_by result (held_in txn.new) ≡ serve request.Found (holds (held_in txn.old)) }
     ensures txn { IsTxn txn.new }
 {
-    match txn.walk {
+    match txn.take_walk() {
         None => refused(NO_WALK, 0),
         Some(walk) => found(txn, walk),
     }

@@ -1,13 +1,14 @@
 //! A transaction in hand.
 ghost use Rattle.server_conn.specs.Connections.{held_on};
-ghost use Rattle.server_conn.specs.Inside.{IsElse, IsSameOwn, IsTableOf, IsTaken, IsTxn, held_in, shelves_in, tree_in};
-ghost use Rattle.std.specs.Prelude.{◌≡◌, ◌<◌, ◌≤◌, ◌↔◌, IfOk, IfSome, IsSome, None, OnErr, OnOk, Some, get_or, length, option_copied, set};
+ghost use Rattle.server_conn.specs.Inside.{IsElse, IsSameOwn, IsTableOf, IsTaken, IsTxn, held_in, shelves_in, shut};
+ghost use Rattle.std.specs.Prelude.{◌≡◌, ◌<◌, ◌≤◌, ◌↔◌, IfOk, IfSome, IsSome, None, OnOk, Some, get_or, length, option_copied, set};
 ghost use Rattle.table_model.specs.Operations.{shelf_at};
+ghost use Rattle.table_model.specs.Soundness.{column_at};
 ghost use Rattle.versions.specs.Databases.{IsDatabase, table_at};
 
 use enc_table::Table;
 use mope_base::{ColNo, OutOfMemory, TableNo};
-use ope_tree::{Place, Tree};
+use ope_tree::{Cursor, Place, Tree};
 use path_code::Path;
 use std::alloc::Global;
 use std::mem;
@@ -21,12 +22,15 @@ pub struct Mark {
     pub place: Place,
 }
 
-/// An open walk: its column, and the way that it has gone down the column's tree.
-#[derive(Clone, Copy)]
+/// An open walk: its column, the way that it has gone down the column's tree, and a share of this tree with where the walk
+/// stands in it, by which a step costs the same however deep it is.
+#[derive(Drop)]
 pub struct Walk {
     pub table: TableNo,
     pub column: ColNo,
     pub path: Path,
+    pub tree: Tree,
+    pub cursor: Cursor,
 }
 
 /// A transaction: the version that it began on; its own tables, of which one is there once the transaction wrote to it, and
@@ -123,15 +127,16 @@ impl Txn {
         }
     }
 
-    /// The tree of a column as the transaction sees it, which must be there.
-    pub fn tree(&self, table: TableNo, column: ColNo) -> &Tree
+    /// A share of the tree of a column as the transaction sees it, which must be there. It costs one link.
+    pub fn share(&self, table: TableNo, column: ColNo) -> Result<Tree, OutOfMemory>
         requires txn { IsTxn self.now }
         requires table { table.0 < length (shelves_in self.now) }
         requires column { column.0 < length (shelf_at (shelves_in self.now) table.0).columns }
-        ensures { result.now.column.tree ≡ tree_in (shelves_in self.now) table.0 column.0 }
+        ensures { IfOk result (λ share. share.column ≡ column_at (shelf_at (shelves_in self.now) table.0).columns column.0) }
     {
         let found = self.table(table).unwrap();
-        found.tree(column).unwrap()
+        let share = found.tree(column).unwrap().copy()?;
+        Ok(share)
     }
 
     /// A copy of the version's table, which must be there.
@@ -157,6 +162,14 @@ impl Txn {
             Some(own) => Ok(own),
             None => self.copy_of(table),
         }
+    }
+
+    /// Takes the open walk out, if there is one.
+    pub fn take_walk(&mut self) -> Option<Walk>
+        ensures taken { result ≡ self.old.walk }
+        ensures left { self.new ≡ shut self.old }
+    {
+        mem::replace(&mut self.walk, None)
     }
 
     /// What the transaction hands over at its end.

@@ -1,28 +1,26 @@
+-- At an item the walk stays open, and a gap is kept.
 use Rattle.std.proofs.Common.{◌∙◌}
 use Rattle.path_code.specs.Ways.{way}
-use Rattle.server_conn.specs.Inside.{shelves_in, tree_in, held_in, IsSpot}
-use Rattle.server_conn.proofs.Going.{come-held, open-txn, item-some, gap-comes, gap-place}
+use Rattle.server_conn.specs.Inside.{shelves_in, held_in}
+use Rattle.server_conn.proofs.Going.{arrives-item, arrives-gap, come-held, come-in, open-txn, gap-comes, gap-place}
 use Rattle.server_conn.proofs.walking.come_to.Goals as goal
 
 pub keep-requires-clause-place : goal.keep-requires-clause-place
-unfolding IsSpot
-keep-requires-clause-place c = gap-place (tree_in (shelves_in c.args.txn.now) c.args.walk.table.0 c.args.walk.column.0) (way c.args.walk.path) c.in-Gap.rank c.in-Gap.ensures
+keep-requires-clause-place c =
+    let gap = arrives-gap c.args.tree (way c.args.path) c.args.arrival c.in-Gap.rank c.in-Gap.is c.requires.arrives in
+    gap-place (shelves_in c.args.txn.now) c.args.table.0 c.args.column.0 c.args.tree.column (way c.args.path) c.in-Gap.rank c.requires.shares gap
 
-pub returns-in-Item-clause-step : goal.returns-in-Item-clause-step
-unfolding IsSpot
-returns-in-Item-clause-step c = come-held c.args.txn.now c.args.walk c.in-Item.field-0 c.in-Item.body c.in-Item.ensures
+pub returns-in-Node-clause-step : goal.returns-in-Node-clause-step
+returns-in-Node-clause-step c =
+    let comes = arrives-item c.args.tree (way c.args.path) c.args.arrival c.in-Node.cursor c.in-Node.body c.in-Node.is c.requires.arrives in
+    come-held c.args.txn.now _ c.in-Node.body c.requires.shares comes
 
-pub returns-in-Item-clause-txn : goal.returns-in-Item-clause-txn
-unfolding IsSpot
-returns-in-Item-clause-txn c =
-    open-txn c.args.txn.now c.args.walk c.requires.txn (record {
-      table_there = c.requires.table;
-      column_there = c.requires.column;
-      is_way = c.requires.is_way;
-      some = item-some (tree_in (shelves_in c.args.txn.now) c.args.walk.table.0 c.args.walk.column.0) (way c.args.walk.path) c.in-Item.field-0 c.in-Item.body c.in-Item.ensures;
-    }) c.requires.room
+pub returns-in-Node-clause-txn : goal.returns-in-Node-clause-txn
+returns-in-Node-clause-txn c =
+    let comes = arrives-item c.args.tree (way c.args.path) c.args.arrival c.in-Node.cursor c.in-Node.body c.in-Node.is c.requires.arrives in
+    open-txn c.args.txn.now _ c.requires.txn (come-in (shelves_in c.args.txn.now) _ c.in-Node.body c.requires.table c.requires.column c.requires.shares c.requires.is_way comes) c.requires.room
 
 pub returns-in-Gap-clause-step : goal.returns-in-Gap-clause-step
-unfolding IsSpot
 returns-in-Gap-clause-step c =
-    c.keep.ensures.step ∙ gap-comes c.args.walk.table.0 c.args.walk.column.0 (tree_in (shelves_in c.args.txn.now) c.args.walk.table.0 c.args.walk.column.0) (way c.args.walk.path) c.in-Gap.rank (held_in c.args.txn.now) c.in-Gap.ensures
+    let gap = arrives-gap c.args.tree (way c.args.path) c.args.arrival c.in-Gap.rank c.in-Gap.is c.requires.arrives in
+    c.keep.ensures.step ∙ gap-comes c.args.table.0 c.args.column.0 c.args.tree.column.tree (way c.args.path) c.in-Gap.rank (held_in c.args.txn.now) gap

@@ -1,30 +1,39 @@
-use Rattle.std.proofs.Common.{◌<◌, ◌∙◌, length, sym, subst}
-use Rattle.mope_base.specs.declared.numbers.TableNo.{TableNo}
-use Rattle.mope_base.specs.declared.numbers.ColNo.{ColNo}
-use Rattle.table_model.specs.Operations.{shelf_at}
+-- One step further from an item, in the walk's share of the tree.
+use Rattle.std.proofs.Common.{◌∙◌, List, sym, subst, arith}
+use Rattle.path_code.specs.Ways.{way}
+use Rattle.path_code.proofs.Spelling.{length-steps}
+use Rattle.tree_model.specs.declared.Side.{Side}
+use Rattle.ope_tree.specs.Cursors.{ArrivesAt}
 use Rattle.server_conn.specs.Inside.{shelves_in}
-use Rattle.server_conn.proofs.Going.{opened, step-held, step-way}
+use Rattle.server_conn.proofs.Going.{step-held, step-way, step-short}
 use Rattle.server_conn.proofs.walking.step.Goals as goal
 
-pub onward-next-requires-clause-goes : goal.onward-next-requires-clause-goes
-onward-next-requires-clause-goes c = (opened c.args.txn.now c.args.walk c.requires.txn c.requires.open).goes
+pub advance-arrival-requires : goal.advance-arrival-requires
+advance-arrival-requires c = (way c.args.walk.path, c.requires.open.goes.stands)
+
+pub child-path-requires : goal.child-path-requires
+child-path-requires c =
+    let short = step-short (shelves_in c.args.txn.now) c.args.walk c.requires.open.goes c.len-short.ensures.short in
+    omega (arith, short, length-steps c.args.walk.path.len c.args.walk.path.bits)
 
 pub come_to-requires-clause-table : goal.come_to-requires-clause-table
-come_to-requires-clause-table c =
-    subst (λ (k : TableNo). k.0 < length (shelves_in c.args.txn.now)) (sym c.onward-next.ensures.table) (opened c.args.txn.now c.args.walk c.requires.txn c.requires.open).goes.table_there
+come_to-requires-clause-table c = c.requires.open.goes.table_there
 
 pub come_to-requires-clause-column : goal.come_to-requires-clause-column
-come_to-requires-clause-column c =
-    subst (λ (k : TableNo). c.onward-next.result.column.0 < length (shelf_at (shelves_in c.args.txn.now) k.0).columns) (sym c.onward-next.ensures.table)
-    (subst (λ (k : ColNo). k.0 < length (shelf_at (shelves_in c.args.txn.now) c.args.walk.table.0).columns) (sym c.onward-next.ensures.column) (opened c.args.txn.now c.args.walk c.requires.txn c.requires.open).goes.column_there)
+come_to-requires-clause-column c = c.requires.open.goes.column_there
+
+pub come_to-requires-clause-shares : goal.come_to-requires-clause-shares
+come_to-requires-clause-shares c = c.requires.open.goes.shares
 
 pub come_to-requires-clause-is_way : goal.come_to-requires-clause-is_way
-come_to-requires-clause-is_way c =
-    step-way c.args.txn.now c.args.walk c.onward-next.result c.args.side c.requires.txn c.requires.open c.onward-next.ensures.table c.onward-next.ensures.column c.onward-next.ensures.way
+come_to-requires-clause-is_way c = step-way (shelves_in c.args.txn.now) c.args.walk (way c.child-path.result) c.args.side c.requires.open.goes c.child-path.ensures.way
+
+pub come_to-requires-clause-arrives : goal.come_to-requires-clause-arrives
+come_to-requires-clause-arrives c =
+    subst (λ (steps : List Side). ArrivesAt c.args.walk.tree steps c.advance-arrival.result) (sym c.child-path.ensures.way) (c.advance-arrival.ensures (way c.args.walk.path) c.requires.open.goes.stands)
 
 pub come_to-requires-clause-room : goal.come_to-requires-clause-room
-come_to-requires-clause-room c = (opened c.args.txn.now c.args.walk c.requires.txn c.requires.open).room
+come_to-requires-clause-room c = c.requires.open.room
 
 pub returns-clause-step : goal.returns-clause-step
-returns-clause-step c =
-    c.come_to.ensures.step ∙ step-held c.args.txn.now c.args.walk c.onward-next.result c.args.side c.requires.txn c.requires.open c.onward-next.ensures.table c.onward-next.ensures.column c.onward-next.ensures.way
+returns-clause-step c = c.come_to.ensures.step ∙ step-held c.args.txn.now c.args.walk (way c.child-path.result) c.args.side c.requires.open.goes c.child-path.ensures.way

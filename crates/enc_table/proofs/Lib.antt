@@ -4,6 +4,7 @@ pub mod Options
 pub mod Marking
 pub mod NumberRows
 pub mod RowCodes
+pub mod CodePlaces
 pub mod ColumnLists
 pub mod ColumnSteps
 pub mod TableLists

@@ -1,13 +1,13 @@
 //! Rows that get new codes: in the cells and in the index, and no others.
 ghost use Rattle.code_changes.specs.Changes.{new_code};
-ghost use Rattle.column_index.specs.Entries.{sorted};
+ghost use Rattle.column_index.specs.Entries.{codes_in as codes_of, sorted};
 ghost use Rattle.column_index.specs.Recoding.{KeepsOrder};
 ghost use Rattle.column_index.specs.Seen.{index_of};
 ghost use Rattle.enc_table.specs.Held.{entries_of, moved_cell};
 ghost use Rattle.enc_table.specs.Marking.{has_code, is_number, marked};
 ghost use Rattle.enc_table.specs.Stored.{codes_in};
-ghost use Rattle.std.specs.Prelude.{◌≡◌, OnOk, length, map, slice_get};
-ghost use Rattle.tree_model.specs.Places.{IsIncreasing};
+ghost use Rattle.std.specs.Prelude.{◌≡◌, ◌+◌, ◌≤◌, IfOk, OnOk, length, map, slice_get};
+ghost use Rattle.tree_model.specs.Places.{IsIncreasing, below};
 
 use crate::cell::Cell;
 use crate::positions::position_of;
@@ -48,26 +48,49 @@ fn recode_row(
     }
 }
 
-/// Gives the rows of one code another one. They are found by the index, which still has the old codes.
+/// Where the entries of a code begin. They don't begin before `place`, and mostly there.
+fn start_of(index: &Index, place: usize, code: u64) -> usize
+    requires { place ≤ below code (codes_of index.now.entries) }
+    ensures { result ≡ below code (codes_of index.now.entries) }
+{
+    if place >= index.len() {
+        return place;
+    }
+    let entry = index.at(place).unwrap();
+    if entry.enc < code {
+        return index.range(code, code).0;
+    }
+    place
+}
+
+/// Gives the rows of one code another one, and answers where its entries end. They are told by the index, which still has the
+/// old codes.
 fn recode_one(
     cells: &mut Paged<Cell>,
     index: &Index,
     numbers: &Paged<u64>,
+    start: usize,
     pair: Recode,
-) -> Result<(), OutOfMemory>
+) -> Result<usize, OutOfMemory>
+    requires start { start ≡ below pair.old (codes_of index.now.entries) }
     requires many { length cells.old ≡ length numbers.now }
     requires rise { IsIncreasing numbers.now }
-    ensures { OnOk result (cells.new ≡ marked (has_code index.now.entries pair.old) pair.new numbers.now cells.old) }
+    ensures end { IfOk result (λ end. end ≡ below (pair.old + 1) (codes_of index.now.entries)) }
+    ensures cells { OnOk result (cells.new ≡ marked (has_code index.now.entries pair.old) pair.new numbers.now cells.old) }
 {
-    let (first, end) = index.range(pair.old, pair.old);
-    'entries: for place in first..end {
+    let count = index.len();
+    'entries: for place in start..count {
         let entry = index.at(place).unwrap();
+        if entry.enc != pair.old {
+            return Ok(place);
+        }
         recode_row(cells, numbers, entry.row, pair.new)?;
     }
-    Ok(())
+    Ok(count)
 }
 
-/// Gives the rows of moved codes their new ones.
+/// Gives the rows of moved codes their new ones. The entries of codes that stand side by side in the index are found without a
+/// search.
 fn recode(
     cells: &mut Paged<Cell>,
     index: &Index,
@@ -80,8 +103,10 @@ fn recode(
     requires olds { IsIncreasing (map (λ pair. pair.old) moved.now) }
     ensures { OnOk result (cells.new ≡ map (moved_cell (new_code moved.now)) cells.old) }
 {
+    let mut end = 0;
     'pairs: for pair in moved {
-        recode_one(cells, index, numbers, *pair)?;
+        let start = start_of(index, end, pair.old);
+        end = recode_one(cells, index, numbers, start, *pair)?;
     }
     Ok(())
 }

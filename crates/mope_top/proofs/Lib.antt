@@ -5,6 +5,7 @@ mod RefusalLemmas
 mod Rounds
 mod LessWork
 mod RoundsOnLemmas
+mod OneList
 mod RanLemmas
 mod Merging
 mod Reporting

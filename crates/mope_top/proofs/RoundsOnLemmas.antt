@@ -15,7 +15,7 @@ use Rattle.step_core.specs.Shown.{AreMade, GrowsTo}
 use Rattle.workload.specs.declared.script.Workload.{Workload}
 use Rattle.workload.specs.Validity.{IsValid}
 
-scheduled-append : (s : RunSetting) (u : Underway) (earlier later : List SessionNo) → scheduled s u (earlier ++ later) ≡ scheduled s (scheduled s u earlier) later
+pub scheduled-append : (s : RunSetting) (u : Underway) (earlier later : List SessionNo) → scheduled s u (earlier ++ later) ≡ scheduled s (scheduled s u earlier) later
 unfolding scheduled
 scheduled-append s u [] later = refl
 scheduled-append s u (n ∷ earlier) later = scheduled-append s (stepped s u n) earlier later

@@ -2,6 +2,7 @@
 #![tactic(auto)]
 
 mod batch;
+pub mod laws;
 mod plain;
 mod refusals;
 mod replay;

@@ -1,6 +1,5 @@
 -- What a core keeps between its calls. The definition is our own.
 use Rattle.std.specs.Prelude.{◌≡◌, ℕ, suc, Bool, true, false, List, [], ◌∷◌, map, Some}
-use Rattle.mope_base.specs.declared.numbers.SessionNo.{SessionNo}
 use Rattle.proxy.specs.declared.outcomes.Settings.{Settings}
 use Rattle.proxy.specs.Party.{said}
 use Rattle.run_laws.specs.Schedules.{Underway}

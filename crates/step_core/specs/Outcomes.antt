@@ -10,7 +10,7 @@ use Rattle.walk_proto.specs.declared.messages.How.TheVariants as how
 use Rattle.walk_proto.specs.declared.messages.Reply.{Reply}
 use Rattle.walk_proto.specs.declared.messages.Reply.TheVariants as reply
 use Rattle.walk_proto.specs.declared.messages.Request.{Request}
-use Rattle.server_conn.specs.Connections.{Due, commit, install, Held, Conn, idle, begins, holds, awaits, held_on, Served, replies, wants_begin, wants_commit, wants_install, Step}
+use Rattle.server_conn.specs.Connections.{commit, install, Conn, idle, begins, holds, awaits, held_on, Served, replies, wants_begin, wants_commit, wants_install}
 use Rattle.server_conn.specs.Handling.{Seen, running, asked_by}
 use Rattle.server_conn.specs.Serving.{serve}
 use Rattle.server_conn.specs.declared.receipt.Receipt.{Receipt as Exchanged}
@@ -73,13 +73,6 @@ pub record TakesTurn (n : SessionNo) (what : TurnKind) (asked : Conn) (old new :
   pub turns : new.turns ≡ old.turns ++ turn_on n what old.current ∷ []
   pub current : new.current ≡ after_turn what old.current
   pub first : new.first ≡ old.first
-
--- what was handed out is that for which the connection waits
-unfoldable pub IsAskedFor : Answered → Conn → Type 0
-IsAskedFor (answered.Reply x) k = Unit {0}
-IsAskedFor answered.Begin k = k ≡ begins
-IsAskedFor answered.Commit k = (h : Held) × (k ≡ awaits h commit)
-IsAskedFor (answered.Install t column) k = (h : Held) × (k ≡ awaits h (install t column))
 
 -- a receipt that was handed out is given back, and nothing changes; or the turn is taken
 unfoldable pub Settles : SessionNo → Answered → Seen → Seen → Course → Course → Exchanged → Type 0

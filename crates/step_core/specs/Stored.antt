@@ -1,5 +1,5 @@
 -- The code of what contracts see of a core, by which proofs tell two of them apart.
-use Rattle.std.specs.Prelude.{◌≡◌, Bool, List, refl}
+use Rattle.std.specs.Prelude.{Bool, List, refl}
 use Rattle.std.specs.Coded.{Coded, code_by, coded×, coded_bool, coded_list}
 use Rattle.proxy.specs.contracts.client.Proxy as proxy
 use Rattle.proxy.specs.Party.{Party}

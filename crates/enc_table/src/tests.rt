@@ -180,33 +180,51 @@ fn drop_last_duplicate(rt: HostRuntime) -> Result<(), OutOfMemory> {
     Ok(())
 }
 
+// So many rows, each with a value above those before it. It tells whether there was room for each.
+fn fill(table: &mut Table, count: u32) -> Result<bool, OutOfMemory> {
+    'rows: for rank in 0..count {
+        if table.full() {
+            return Ok(false);
+        }
+        insert_value(table, Place::Gap(rank), u64::from(rank))?;
+    }
+    Ok(true)
+}
+
+// Whether a table of so many rows has no room for one more, and is as it was when it is asked for one.
+fn refuses(table: &mut Table, count: u32) -> bool {
+    let last = u64::from(count);
+    let code = table.code(last, ColNo(0));
+    match insert(table, &[Place::Gap(count)], &[body(last)]) {
+        Err(TableStop::Full) => {}
+        _ => return false,
+    }
+    table.full()
+        && table.rows() == count as usize
+        && table.next() == last.saturating_add(1)
+        && table.row_at(count.saturating_sub(1) as usize) == Some(last)
+        && table.code(last, ColNo(0)) == code
+}
+
+// Whether a table of so many rows has room for one row more where the last one goes.
+fn takes_one_more(table: &mut Table, count: u32) -> Result<bool, OutOfMemory> {
+    let last = u64::from(count);
+    let before = count.saturating_sub(1);
+    delete(table, &[last])?;
+    if table.full() {
+        return Ok(false);
+    }
+    insert_value(table, Place::Gap(before), last)?;
+    Ok(table.full() && table.row_at(before as usize) == Some(last.saturating_add(1)))
+}
+
 // 65,536 rows, and no room for one more until one goes.
 #[test]
 fn full_table(rt: HostRuntime) -> Result<(), OutOfMemory> {
     let mut table = Table::new(rt.alloc(), 1, Mode::Ordinary, 65_536)?;
-    for rank in 0..65_536 {
-        assert_eq!(rt; table.full(), false);
-        insert_value(&mut table, Place::Gap(rank), u64::from(rank))?;
-    }
-    assert_eq!(rt; table.full(), true);
-    let code = table.code(65_536, ColNo(0));
-    let body = Body {
-        nonce: 0,
-        masked: 65_536,
-    };
-    match insert(&mut table, &[Place::Gap(65_536)], &[body]) {
-        Err(TableStop::Full) => {}
-        _ => return Err(OutOfMemory),
-    }
-    assert_eq!(rt; table.rows(), 65_536);
-    assert_eq!(rt; table.next(), 65_537);
-    assert_eq!(rt; table.row_at(65_535), Some(65_536));
-    assert_eq!(rt; table.code(65_536, ColNo(0)), code);
-    delete(&mut table, &[65_536])?;
-    assert_eq!(rt; table.full(), false);
-    insert_value(&mut table, Place::Gap(65_535), 65_536)?;
-    assert_eq!(rt; table.row_at(65_535), Some(65_537));
-    assert_eq!(rt; table.full(), true);
+    assert!(rt; fill(&mut table, 65_536)?);
+    assert!(rt; refuses(&mut table, 65_536));
+    assert!(rt; takes_one_more(&mut table, 65_536)?);
     Ok(())
 }
 

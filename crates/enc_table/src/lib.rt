@@ -25,4 +25,6 @@ pub use stop::TableStop;
 pub use table::Table;
 
 #[cfg(test)]
+mod plain_tests;
+#[cfg(test)]
 mod tests;

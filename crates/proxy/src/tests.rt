@@ -6,7 +6,7 @@ mod server;
 mod telling;
 
 use crate::{Driven, Finished, Proxy, Step, Want, drive};
-use links::{Plain, ToList, plain_of, reply_of};
+use links::{Plain, ToList, reply_of};
 use mope_base::OutOfMemory;
 use scripts::{Line, proxy_of};
 use sql_text::Test;
@@ -15,10 +15,7 @@ use std::test::Fail;
 use telling::{asked, told};
 use walk_proto::{How, Reply};
 
-/// A reply that isn't allowed to what a proxy wants of the server.
-type Strange = (Want, Option<Plain>);
-
-/// What a proxy's script comes to over a link that is honest.
+/// What a proxy's script comes to, if no reply is strange.
 fn finished(proxy: Proxy, link: &mut ToList) -> Result<Option<Finished>, OutOfMemory> {
     match drive(proxy, link)? {
         Driven::Finished(finished) => Ok(Some(finished)),
@@ -26,26 +23,41 @@ fn finished(proxy: Proxy, link: &mut ToList) -> Result<Option<Finished>, OutOfMe
     }
 }
 
-/// The reply at which a proxy stops, if there is one.
-fn stopped(proxy: Proxy, link: &mut ToList) -> Result<Option<Strange>, OutOfMemory> {
-    match drive(proxy, link)? {
-        Driven::Finished(_) => Ok(None),
-        Driven::Strange { want, got } => Ok(Some((want, plain_of(&got)))),
-    }
+/// A reply that isn't allowed to what a proxy wants of the server, as text.
+fn strange(alloc: Global, want: Want, got: &Reply) -> Result<String, OutOfMemory> {
+    Ok(format!(in alloc; "{want:?} {got:?}")?)
 }
 
-/// The reply that a proxy tells to be strange, if it does.
-fn strange(proxy: &mut Proxy, reply: Option<&Reply>) -> Result<Option<Strange>, OutOfMemory> {
+/// The reply at which a proxy with a script stops, over a link that lies after so many honest replies; and how many
+/// exchanges there were. No text where it doesn't stop.
+fn lied(
+    alloc: Global,
+    lines: &[Line],
+    honest: usize,
+    lie: Plain,
+) -> Result<(String, usize), OutOfMemory> {
+    let proxy = proxy_of(alloc, lines, false)?;
+    let mut link = ToList::new(alloc, honest, lie);
+    let text = match drive(proxy, &mut link)? {
+        Driven::Finished(_) => String::new(alloc),
+        Driven::Strange { want, got } => strange(alloc, want, &got)?,
+    };
+    Ok((text, link.log.as_slice().len()))
+}
+
+/// The reply that a proxy calls strange, if it does.
+fn refused(alloc: Global, proxy: &mut Proxy, reply: Option<&Reply>) -> Result<String, OutOfMemory> {
     match proxy.next(reply)? {
-        Step::Strange { want, got } => Ok(Some((want, plain_of(&got)))),
-        _ => Ok(None),
+        Step::Strange { want, got } => strange(alloc, want, &got),
+        _ => Ok(String::new(alloc)),
     }
 }
 
 /// What a proxy came to, if it says that its script has ended.
-fn ended(proxy: Proxy, reply: Option<&Reply>) -> Result<Option<Finished>, OutOfMemory> {
+fn ended(proxy: Proxy) -> Result<Option<Finished>, OutOfMemory> {
     let mut proxy = proxy;
-    match proxy.next(reply)? {
+    let step = proxy.next(None)?;
+    match step {
         Step::Done => Ok(Some(proxy.finish())),
         _ => Ok(None),
     }
@@ -106,7 +118,7 @@ begin end
 #[test]
 fn every_statement(rt: HostRuntime) -> Result<(), Fail> {
     let alloc = rt.alloc();
-    let proxy = proxy_of(&rt, alloc, &EVERY_STATEMENT, true)?;
+    let proxy = proxy_of(alloc, &EVERY_STATEMENT, true)?;
     let mut link = ToList::new(alloc, 1_000, Plain::Placed);
     let done = finished(proxy, &mut link)?.expect(&rt, "an end");
     assert_eq!(rt; told(alloc, done.txns.as_slice())?.as_str(), TOLD);
@@ -117,20 +129,16 @@ fn every_statement(rt: HostRuntime) -> Result<(), Fail> {
 
 #[test]
 fn strange_reply(rt: HostRuntime) -> Result<(), Fail> {
-    let alloc = rt.alloc();
-    let proxy = proxy_of(&rt, alloc, &[Line::Rebuild], false)?;
-    let mut link = ToList::new(alloc, 0, Plain::Placed);
-    assert_eq!(rt;
-        stopped(proxy, &mut link)?,
-        Some((Want::Begin, Some(Plain::Placed)))
-    );
+    let (text, count) = lied(rt.alloc(), &[Line::Rebuild], 0, Plain::Placed)?;
+    assert_eq!(rt; text.as_str(), "Begin Placed");
+    assert_eq!(rt; count, 1);
     Ok(())
 }
 
 // After so many honest replies to an INSERT and a REBUILD, each of these is strange.
 #[test]
 fn lies_at_each_want(rt: HostRuntime) -> Result<(), Fail> {
-    let alloc = rt.alloc();
+    let lines = [Line::Insert(5), Line::Commit, Line::Rebuild];
     'lies: for (honest, lie, want) in [
         (0, Plain::Placed, Want::Begin),
         (0, Plain::Count(1), Want::Begin),
@@ -156,14 +164,9 @@ fn lies_at_each_want(rt: HostRuntime) -> Result<(), Fail> {
         (5, Plain::Ended(How::Committed, 0), Want::Rebuild),
         (5, Plain::Ended(How::Stale, 1), Want::Rebuild),
     ] {
-        let lines = [Line::Insert(5), Line::Commit, Line::Rebuild];
-        let proxy = proxy_of(&rt, alloc, &lines, false)?;
-        let mut link = ToList::new(alloc, honest, lie);
-        assert_eq!(rt;
-            stopped(proxy, &mut link)?,
-            Some((want, Some(lie))),
-            "{lie:?} after {honest} replies"
-        );
+        let (text, _count) = lied(rt.alloc(), &lines, honest, lie)?;
+        let wanted = strange(rt.alloc(), want, &reply_of(lie))?;
+        assert_eq!(rt; text.as_str(), wanted.as_str(), "after {honest} replies");
     }
     Ok(())
 }
@@ -171,14 +174,10 @@ fn lies_at_each_want(rt: HostRuntime) -> Result<(), Fail> {
 // A walk takes 63 steps down at most: an item after them is strange.
 #[test]
 fn walk_without_end(rt: HostRuntime) -> Result<(), Fail> {
-    let alloc = rt.alloc();
-    let proxy = proxy_of(&rt, alloc, &[Line::Insert(5), Line::Commit], false)?;
-    let mut link = ToList::new(alloc, 1, Plain::Node);
-    assert_eq!(rt;
-        stopped(proxy, &mut link)?,
-        Some((Want::Walk, Some(Plain::Node)))
-    );
-    assert_eq!(rt; link.log.as_slice().len(), 2 + 63);
+    let (text, count) = lied(rt.alloc(), &[Line::Insert(5), Line::Commit], 1, Plain::Node)?;
+    let wanted = strange(rt.alloc(), Want::Walk, &reply_of(Plain::Node))?;
+    assert_eq!(rt; text.as_str(), wanted.as_str());
+    assert_eq!(rt; count, 2 + 63);
     Ok(())
 }
 
@@ -186,22 +185,15 @@ fn walk_without_end(rt: HostRuntime) -> Result<(), Fail> {
 #[test]
 fn strange_again(rt: HostRuntime) -> Result<(), Fail> {
     let alloc = rt.alloc();
-    let mut proxy = proxy_of(&rt, alloc, &[Line::Rebuild], false)?;
-    assert_eq!(rt; strange(&mut proxy, None)?, None);
-    'replies: for plain in [
-        Plain::Placed,
-        Plain::Ended(How::Began, 0),
-        Plain::Count(1),
-    ] {
+    let mut proxy = proxy_of(alloc, &[Line::Rebuild], false)?;
+    assert_eq!(rt; refused(alloc, &mut proxy, None)?.as_str(), "");
+    'replies: for plain in [Plain::Placed, Plain::Ended(How::Began, 0), Plain::Count(1)] {
         assert_eq!(rt;
-            strange(&mut proxy, Some(&reply_of(plain)))?,
-            Some((Want::Begin, Some(Plain::Placed)))
+            refused(alloc, &mut proxy, Some(&reply_of(plain)))?.as_str(),
+            "Begin Placed"
         );
     }
-    assert_eq!(rt;
-        strange(&mut proxy, None)?,
-        Some((Want::Begin, Some(Plain::Placed)))
-    );
+    assert_eq!(rt; refused(alloc, &mut proxy, None)?.as_str(), "Begin Placed");
     Ok(())
 }
 
@@ -209,8 +201,8 @@ fn strange_again(rt: HostRuntime) -> Result<(), Fail> {
 #[test]
 fn empty_script(rt: HostRuntime) -> Result<(), Fail> {
     let alloc = rt.alloc();
-    let proxy = proxy_of(&rt, alloc, &[], true)?;
-    let done = ended(proxy, None)?.expect(&rt, "an end");
+    let proxy = proxy_of(alloc, &[], true)?;
+    let done = ended(proxy)?.expect(&rt, "an end");
     assert_eq!(rt; done.txns.as_slice().len(), 0);
     assert_eq!(rt; done.log.as_slice().len(), 0);
     Ok(())

@@ -12,7 +12,7 @@ use value_cipher::seal;
 use walk_proto::{Asked, How, Link, Reply, Request};
 
 /// A reply other than rows.
-#[derive(Clone, Copy, Debug, PartialEq, Eq)]
+#[derive(Clone, Copy)]
 pub(super) enum Plain {
     Node,
     Placed,
@@ -33,24 +33,6 @@ pub(super) fn reply_of(plain: Plain) -> Reply {
             number: 1,
         },
         Plain::No(code, value) => Reply::No { code, value },
-    }
-}
-
-pub(super) fn plain_of(reply: &Reply) -> Option<Plain> {
-    match reply {
-        Reply::Node(_) => Some(Plain::Node),
-        Reply::Placed => Some(Plain::Placed),
-        Reply::Rows {
-            width: _,
-            bodies: _,
-        } => None,
-        Reply::Count(number) => Some(Plain::Count(*number)),
-        Reply::Ended {
-            how,
-            table,
-            number: _,
-        } => Some(Plain::Ended(*how, *table)),
-        Reply::No { code, value } => Some(Plain::No(*code, *value)),
     }
 }
 

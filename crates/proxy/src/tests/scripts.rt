@@ -9,7 +9,6 @@ use mope_base::{ColNo, Items, Mode, OutOfMemory, SessionNo, TableNo};
 use sql_text::Test;
 use std::alloc::Global;
 use std::mem;
-use std::process::Abort;
 use value_cipher::Key;
 use workload::{Act, Ask, Piece, Verb};
 
@@ -98,10 +97,7 @@ fn script_of(alloc: Global, lines: &[Line]) -> Result<Items<Piece>, OutOfMemory>
     'lines: for line in lines {
         match act_of(alloc, *line)? {
             Some(act) => acts.push(act)?,
-            None => script.push(piece_of(
-                *line,
-                mem::replace(&mut acts, Items::new(alloc)),
-            ))?,
+            None => script.push(piece_of(*line, mem::replace(&mut acts, Items::new(alloc))))?,
         }
     }
     Ok(script)
@@ -164,15 +160,12 @@ fn is_small(script: &Items<Piece>) -> bool
     pieces.len() < 1 << 32 && has_few_numbers((1 << 32) - 1, pieces)
 }
 
-/// A proxy of session 1 with the script of these lines.
-pub(super) fn proxy_of(
-    rt: &impl Abort,
-    alloc: Global,
-    lines: &[Line],
-    keep: bool,
-) -> Result<Proxy, OutOfMemory> {
+/// A proxy of session 1 with the script of these lines. A script that isn't small ends the test.
+pub(super) fn proxy_of(alloc: Global, lines: &[Line], keep: bool) -> Result<Proxy, OutOfMemory> {
     let script = script_of(alloc, lines)?;
-    assert!(rt; is_small(&script));
+    if !is_small(&script) {
+        return Err(OutOfMemory);
+    }
     let settings = Settings {
         key: KEY,
         first: 0,

@@ -56,12 +56,7 @@ fn part(values: &[u64], from: usize, to: usize) -> &[u64] {
 }
 
 /// The values but those from one index up to another.
-fn without(
-    alloc: Global,
-    values: &[u64],
-    from: usize,
-    to: usize,
-) -> Result<Vec<u64>, OutOfMemory> {
+fn without(alloc: Global, values: &[u64], from: usize, to: usize) -> Result<Vec<u64>, OutOfMemory> {
     let mut kept = part(values, 0, from).to_vec(alloc)?;
     'values: for value in part(values, to, values.len()) {
         kept.push(*value)?;

@@ -2,10 +2,10 @@
 
 use crate::Exchange;
 use mope_base::OutOfMemory;
+use path_code::Side;
 use std::alloc::Global;
 use walk_proto::Request;
 use workload::{Answer, DoneTxn, End};
-use path_code::Side;
 
 fn push_found(text: &mut String, word: &str, found: Option<u64>) -> Result<(), OutOfMemory> {
     match found {

@@ -160,8 +160,8 @@ fn is_small(script: &Items<Piece>) -> bool
     pieces.len() < 1 << 32 && has_few_numbers((1 << 32) - 1, pieces)
 }
 
-/// A proxy of session 1 with the script of these lines. A script that isn't small ends the test.
-pub(super) fn proxy_of(alloc: Global, lines: &[Line], keep: bool) -> Result<Proxy, OutOfMemory> {
+/// A proxy of session 1 with the script of these lines, which keeps its exchanges. A script that isn't small ends the test.
+pub(super) fn proxy_of(alloc: Global, lines: &[Line]) -> Result<Proxy, OutOfMemory> {
     let script = script_of(alloc, lines)?;
     if !is_small(&script) {
         return Err(OutOfMemory);
@@ -170,7 +170,7 @@ pub(super) fn proxy_of(alloc: Global, lines: &[Line], keep: bool) -> Result<Prox
         key: KEY,
         first: 0,
         mode: Mode::Ordinary,
-        keep,
+        keep: true,
     };
     Ok(Proxy::new(alloc, settings, SessionNo(1), script))
 }

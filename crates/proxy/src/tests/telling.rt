@@ -1,65 +1,23 @@
-//! Answers and requests as text.
+//! What a script comes to, as text.
 
-use crate::Exchange;
+use crate::{Exchange, Finished, Want};
 use mope_base::OutOfMemory;
 use path_code::Side;
 use std::alloc::Global;
-use walk_proto::Request;
-use workload::{Answer, DoneTxn, End};
+use walk_proto::{Reply, Request};
+use workload::DoneTxn;
 
-fn push_found(text: &mut String, word: &str, found: Option<u64>) -> Result<(), OutOfMemory> {
-    match found {
-        Some(value) => write!(text, ", {word} {value}")?,
-        None => write!(text, ", {word} none")?,
-    }
-    Ok(())
-}
-
-fn push_rows(text: &mut String, values: &[u64]) -> Result<(), OutOfMemory> {
-    text.push_str(", rows")?;
-    'values: for value in values {
-        write!(text, " {value}")?;
-    }
-    Ok(())
-}
-
-fn push_answer(text: &mut String, answer: &Answer) -> Result<(), OutOfMemory> {
-    match answer {
-        Answer::Inserted => text.push_str(", inserted")?,
-        Answer::Deleted(count) => write!(text, ", deleted {count}")?,
-        Answer::Count(count) => write!(text, ", count {count}")?,
-        Answer::Min(found) => push_found(text, "min", *found)?,
-        Answer::Max(found) => push_found(text, "max", *found)?,
-        Answer::Rows { width: _, values } => push_rows(text, values.as_slice())?,
-    }
-    Ok(())
-}
-
-fn push_end(text: &mut String, end: End) -> Result<(), OutOfMemory> {
-    match end {
-        End::Read => text.push_str("read")?,
-        End::Committed(number) => write!(text, "committed {number}")?,
-        End::RolledBack => text.push_str("rolled back")?,
-        End::Full(_) => text.push_str("full")?,
-        End::Conflict(_, number) => write!(text, "conflict {number}")?,
-        End::Installed(number) => write!(text, "installed {number}")?,
-        End::Stale(_, number) => write!(text, "stale {number}")?,
-    }
-    Ok(())
-}
-
-/// A line for each transaction: its place, base and end, and its answers.
-pub(super) fn told(alloc: Global, txns: &[DoneTxn]) -> Result<String, OutOfMemory> {
-    let mut text = String::new(alloc);
+/// A line for each transaction: its place, base, end and answers.
+fn push_txns(text: &mut String, txns: &[DoneTxn]) -> Result<(), OutOfMemory> {
     'txns: for txn in txns {
-        write!(text, "{} at {} ", txn.place, txn.base)?;
-        push_end(&mut text, txn.end)?;
-        'answers: for answer in txn.answers.as_slice() {
-            push_answer(&mut text, answer)?;
-        }
-        text.push_str("\n")?;
+        let answers = txn.answers.as_slice();
+        writeln!(
+            text,
+            "{} at {} {:?} {answers:?}",
+            txn.place, txn.base, txn.end
+        )?;
     }
-    Ok(text)
+    Ok(())
 }
 
 fn kind(request: &Request) -> &str {
@@ -86,10 +44,32 @@ fn kind(request: &Request) -> &str {
 }
 
 /// The kinds of the requests, a line for each transaction.
-pub(super) fn asked(alloc: Global, log: &[Exchange]) -> Result<String, OutOfMemory> {
-    let mut text = String::new(alloc);
+fn push_requests(text: &mut String, log: &[Exchange]) -> Result<(), OutOfMemory> {
     'exchanges: for exchange in log {
         text.push_str(kind(&exchange.request))?;
     }
+    Ok(())
+}
+
+/// The transactions of a script, the requests that the proxy kept, and those that the link kept.
+pub(super) fn told(
+    alloc: Global,
+    done: &Finished,
+    log: &[Exchange],
+) -> Result<String, OutOfMemory> {
+    let mut text = String::new(alloc);
+    push_txns(&mut text, done.txns.as_slice())?;
+    push_requests(&mut text, done.log.as_slice())?;
+    push_requests(&mut text, log)?;
     Ok(text)
+}
+
+/// A reply that isn't allowed to what a proxy wants of the server, and the number of the exchange.
+pub(super) fn strange(
+    alloc: Global,
+    want: Want,
+    got: &Reply,
+    number: usize,
+) -> Result<String, OutOfMemory> {
+    Ok(format!(in alloc; "{want:?} {got:?} at {number}")?)
 }

@@ -35,6 +35,16 @@ fn is_stuck(proxy: &mut Proxy, reply: Option<&Reply>) -> Result<bool, OutOfMemor
     }
 }
 
+/// Whether it says so again, whatever reply comes after it and where none does.
+fn stays_stuck(proxy: &mut Proxy, replies: &[Plain]) -> Result<bool, OutOfMemory> {
+    'replies: for plain in replies {
+        if !is_stuck(proxy, Some(&reply_of(*plain)))? {
+            return Ok(false);
+        }
+    }
+    is_stuck(proxy, None)
+}
+
 /// How many transactions ended and how many exchanges were kept, if a proxy says that its script has ended.
 fn ended(proxy: Proxy) -> Result<Option<(usize, usize)>, OutOfMemory> {
     let mut proxy = proxy;
@@ -182,15 +192,20 @@ fn walk_without_end(rt: HostRuntime) -> Result<(), Fail> {
     Ok(())
 }
 
-// What is strange once stays so, whatever comes after it.
+/// Whether a proxy is stuck before a reply, after Placed, and after further replies.
+fn stuck_at(proxy: Proxy) -> Result<(bool, bool, bool), OutOfMemory> {
+    let mut proxy = proxy;
+    let before = is_stuck(&mut proxy, None)?;
+    let after = is_stuck(&mut proxy, Some(&Reply::Placed))?;
+    let later = stays_stuck(&mut proxy, &[Plain::Ended(How::Began, 0), Plain::Count(1)])?;
+    Ok((before, after, later))
+}
+
+// What is strange once stays so.
 #[test]
 fn strange_again(rt: HostRuntime) -> Result<(), Fail> {
-    let mut proxy = proxy_of(rt.alloc(), &[Line::Rebuild])?;
-    assert!(rt; !is_stuck(&mut proxy, None)?);
-    'replies: for plain in [Plain::Placed, Plain::Ended(How::Began, 0), Plain::Count(1)] {
-        assert!(rt; is_stuck(&mut proxy, Some(&reply_of(plain)))?);
-    }
-    assert!(rt; is_stuck(&mut proxy, None)?);
+    let stuck = stuck_at(proxy_of(rt.alloc(), &[Line::Rebuild])?)?;
+    assert_eq!(rt; stuck, (false, true, true));
     Ok(())
 }
 

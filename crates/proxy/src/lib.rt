@@ -13,6 +13,8 @@ mod opening;
 mod outcomes;
 mod pads;
 mod sending;
+#[cfg(test)]
+mod tests;
 mod turning;
 
 pub use client::Proxy;

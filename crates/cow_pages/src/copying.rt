@@ -6,7 +6,7 @@ ghost use Rattle.std.specs.Prelude.{◌≡◌, ◌+◌, ◌++◌, ◌<◌, ◌^�
 use crate::OutOfMemory;
 use crate::edit::Edit;
 use crate::making::{Parts, inners, leaves};
-use crate::pages::{INNER, LEAF, Link, Node, Page};
+use crate::pages::{INNER, Link, Node, Page};
 use crate::reading::place_in;
 use std::alloc::Global;
 use std::sync::Arc;
@@ -21,7 +21,7 @@ pub fn edited_items<T: Copy>(
     requires { HasPlace edit items.now place }
     ensures { IfOk result (λ copy. copy.items ≡ changed edit items.now place) }
 {
-    let mut copy = Vec::with_capacity(alloc, LEAF + 1)?;
+    let mut copy = Vec::with_capacity(alloc, items.len().saturating_add(1))?;
     copy.extend_from_slice(items)?;
     match edit {
         Edit::Set(item) => copy[place] = item,

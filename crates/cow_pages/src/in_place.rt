@@ -3,7 +3,7 @@ ghost use Rattle.cow_pages.specs.Edits.{HasPlace, changed};
 ghost use Rattle.std.specs.Prelude.{◌≡◌, ◌+◌, ◌<◌, ◌≤◌, ◌^◌, if◌then◌else◌, insert, length, remove};
 
 use crate::edit::Edit;
-use crate::pages::{LEAF, Link, Node, Page};
+use crate::pages::{Link, Node, Page, leaf_room};
 use crate::reading::place_in;
 use std::sync::Arc;
 
@@ -12,7 +12,7 @@ fn insert_item<T: Copy>(items: &mut Vec<T>, place: usize, item: T) -> bool
     requires { place ≤ length items.old.items }
     ensures { items.new.items ≡ (if result then insert items.old.items place item else items.old.items) }
 {
-    if items.len() >= LEAF {
+    if items.len() >= leaf_room(&item) {
         return false;
     }
     items.insert(place, item).is_ok()

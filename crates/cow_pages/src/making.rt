@@ -5,7 +5,7 @@ ghost use Rattle.std.specs.Prelude.{◌≡◌, ◌<◌, ◌^◌, IfOk, length};
 
 use crate::OutOfMemory;
 use crate::edit::Split;
-use crate::pages::{INNER, LEAF, Link, Node, Page};
+use crate::pages::{INNER, Link, Node, Page, leaf_room};
 use std::alloc::Global;
 use std::sync::Arc;
 
@@ -77,7 +77,7 @@ pub fn leaves<T: Copy>(
     if count == 0 {
         return Ok(Parts::Gone);
     }
-    if count <= LEAF {
+    if count <= leaf_room(&items[0]) {
         return Ok(Parts::One(leaf(alloc, items)?));
     }
     let rest = items.split_off(split.place(count))?;

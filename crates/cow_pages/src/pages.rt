@@ -1,15 +1,37 @@
 //! Pages, and the links to them.
-ghost use Rattle.std.specs.Prelude.{◌≡◌, length};
+ghost use Rattle.std.specs.Prelude.{◌≡◌, ◌<◌, length};
 
 use std::alloc::Global;
 use std::marker::Model;
+use std::mem::size_of_val;
 use std::sync::Arc;
 
-/// How many items a leaf has at most.
-pub const LEAF: usize = 64;
+/// How many bytes the items of a leaf have at most, unless it has few of them.
+const LEAF_BYTES: usize = 2048;
 
-/// How many links an inner node has at most.
-pub const INNER: usize = 32;
+/// How many items a leaf may have whatever their size.
+const LEAF_LEAST: usize = 16;
+
+/// How many items a leaf has at most whatever their size.
+const LEAF_MOST: usize = 256;
+
+/// How many links an inner node has at most. A page that is copied has a count to raise for each link, so they are few.
+pub const INNER: usize = 16;
+
+/// How many items such as this one a leaf has at most: as many as fill the bytes of a page, since a leaf that is shared is copied
+/// whole.
+pub fn leaf_room<T: Copy>(item: &T) -> usize
+    ensures { 0 < result }
+{
+    let bytes = size_of_val(item);
+    if bytes <= LEAF_BYTES / LEAF_MOST {
+        return LEAF_MOST;
+    }
+    if bytes >= LEAF_BYTES / LEAF_LEAST {
+        return LEAF_LEAST;
+    }
+    LEAF_BYTES / bytes
+}
 
 /// A page with all that is below it, seen as its height and the items of its leaves in order.
 #[cycle(pages)]

@@ -6,8 +6,8 @@ use Rattle.cow_pages.proofs.making.leaves.Goals as goal
 pub returns-then-count-eq0 : goal.returns-then-count-eq0
 returns-then-count-eq0 g c = parts-gone 0 c.args.items.items (omega arith)
 
-pub returns-then-count-le-LEAF : goal.returns-then-count-le-LEAF
-returns-then-count-le-LEAF g c = parts-one 0 c.in_ok-leaf.field-0 c.args.items.items c.in_ok-leaf.ensures
+pub returns-then-count-leaf_room : goal.returns-then-count-leaf_room
+returns-then-count-leaf_room g c = parts-one 0 c.in_ok-leaf.field-0 c.args.items.items c.in_ok-leaf.ensures
 
 pub returns : goal.returns
 returns g c =

@@ -14,6 +14,9 @@ use mope_base::{Body, Items, OutOfMemory};
 use path_code::Side;
 use std::alloc::Global;
 
+/// Room for a message of a body, and for one of a query with few conditions, so that these are written without growing.
+const ROOM: usize = 32;
+
 /// The bytes of a request. It must be one that some bytes give. What is written has no fault, and
 /// `read_request` gives the request again.
 pub fn write_request(alloc: Global, r: &Request) -> Result<Items<u8>, OutOfMemory>
@@ -22,7 +25,7 @@ pub fn write_request(alloc: Global, r: &Request) -> Result<Items<u8>, OutOfMemor
     ensures faultless { IfOk result (λ bytes. request_fault bytes ≡ None) }
     ensures fits { OnOk result (RequestFits r.now) }
 {
-    let mut out = Vec::new(alloc);
+    let mut out = Vec::with_capacity(alloc, ROOM)?;
     put_request(&mut out, r)?;
     Ok(Items::from_vec(out))
 }
@@ -35,7 +38,7 @@ pub fn write_reply(alloc: Global, r: &Reply) -> Result<Items<u8>, OutOfMemory>
     ensures faultless { IfOk result (λ bytes. reply_fault bytes ≡ None) }
     ensures fits { OnOk result (ReplyFits r.now) }
 {
-    let mut out = Vec::new(alloc);
+    let mut out = Vec::with_capacity(alloc, ROOM)?;
     put_reply(&mut out, r)?;
     Ok(Items::from_vec(out))
 }

@@ -5,4 +5,4 @@ use Rattle.walk_proto.specs.Spelling.{reply_bytes}
 use Rattle.walk_proto.proofs.writing.write_reply.Goals as goal
 
 pub returns-clause-faultless : goal.returns-clause-faultless
-returns-clause-faultless c = subst (λ bytes. reply_fault bytes ≡ None) (sym (c.from_vec.ensures ∙ c.in_ok-put_reply.ensures.spelled ∙ ap (λ xs. xs ++ reply_bytes c.args.r.now) c.new-out.ensures.items)) (reply_faultless c.args.r.now c.in_ok-put_reply.ensures.fits c.requires)
+returns-clause-faultless c = subst (λ bytes. reply_fault bytes ≡ None) (sym (c.from_vec.ensures ∙ c.in_ok-put_reply.ensures.spelled ∙ ap (λ xs. xs ++ reply_bytes c.args.r.now) c.in_ok-out.ensures.items)) (reply_faultless c.args.r.now c.in_ok-put_reply.ensures.fits c.requires)

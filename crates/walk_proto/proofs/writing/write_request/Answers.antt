@@ -5,4 +5,4 @@ use Rattle.walk_proto.specs.Spelling.{request_bytes}
 use Rattle.walk_proto.proofs.writing.write_request.Goals as goal
 
 pub returns-clause-faultless : goal.returns-clause-faultless
-returns-clause-faultless c = subst (λ bytes. request_fault bytes ≡ None) (sym (c.from_vec.ensures ∙ c.in_ok-put_request.ensures.spelled ∙ ap (λ xs. xs ++ request_bytes c.args.r.now) c.new-out.ensures.items)) (request_faultless c.args.r.now c.requires)
+returns-clause-faultless c = subst (λ bytes. request_fault bytes ≡ None) (sym (c.from_vec.ensures ∙ c.in_ok-put_request.ensures.spelled ∙ ap (λ xs. xs ++ request_bytes c.args.r.now) c.in_ok-out.ensures.items)) (request_faultless c.args.r.now c.requires)

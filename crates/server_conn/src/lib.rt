@@ -12,6 +12,8 @@ mod receipt;
 mod selecting;
 mod serving;
 mod stage;
+#[cfg(test)]
+mod tests;
 mod txn;
 mod walking;
 mod watch;

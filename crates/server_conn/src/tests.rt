@@ -26,7 +26,7 @@ fn refusal(conn: &mut Conn, message: &[u8]) -> Result<Option<(u8, u32)>, OutOfMe
 
 // Whether each of some messages is refused by this code.
 fn refuses(conn: &mut Conn, messages: &[&[u8]], code: u8) -> Result<bool, OutOfMemory> {
-    for message in messages {
+    'messages: for message in messages {
         if refusal(conn, message)? != Some((code, 0)) {
             return Ok(false);
         }

@@ -260,7 +260,7 @@ const REFUSED: &[(usize, &[u8], u64, u64)] = &[
 ];
 
 // Whether a message gets this answer.
-fn answers(
+pub(crate) fn answers(
     alloc: Global,
     conn: &mut Conn,
     message: &[u8],
@@ -280,15 +280,16 @@ fn go_so(alloc: Global, conn: &mut Conn, talk: &[(&[u8], &[u64])]) -> Result<boo
     Ok(true)
 }
 
-// Whether the transaction keeps the three operations of `TALK`, and the tables of its five statements.
-fn keeps_three(conn: &Conn) -> bool {
+// Whether a transaction hands over so many operations, and the tables of so many statements.
+pub(crate) fn hands_over(conn: &Conn, ops: usize, statements: usize) -> bool {
     match conn.ending() {
         None => false,
-        Some(ending) => ending.ops.len() == 3 && ending.touched.len() == 5,
+        Some(ending) => ending.ops.len() == ops && ending.touched.len() == statements,
     }
 }
 
-// Whether a message after so many messages is refused for this reason, and the transaction goes on as if it hadn't been sent.
+// Whether a message after so many messages is refused for this reason, and the transaction goes on as if it hadn't been sent:
+// the later messages get the same answers, and it has the three operations of its five statements.
 fn is_refused(
     alloc: Global,
     talk: &[(&[u8], &[u64])],
@@ -301,7 +302,7 @@ fn is_refused(
     let before = go_so(alloc, &mut conn, earlier)?;
     let refused = answers(alloc, &mut conn, message, &[14, refusal[0], refusal[1]])?;
     let afterwards = go_so(alloc, &mut conn, later)?;
-    Ok(before && refused && afterwards && keeps_three(&conn))
+    Ok(before && refused && afterwards && hands_over(&conn, 3, 5))
 }
 
 // The first of these messages that isn't refused so, with the number of messages before it.

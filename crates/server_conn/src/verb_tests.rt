@@ -1,6 +1,6 @@
 //! A transaction of every verb on a table of three columns. The walks are a client's whose numbers aren't hidden: each is the
 //! masked word of its body.
-use crate::refusal_tests::{begun, send};
+use crate::refusal_tests::{answers, begun, hands_over, send};
 use crate::{Conn, Served};
 use mope_base::OutOfMemory;
 use std::alloc::Global;
@@ -346,5 +346,33 @@ fn every_verb(rt: HostRuntime) -> Result<(), OutOfMemory> {
     let mut conn = begun(rt.alloc(), 1_024)?;
     assert!(rt; insert_all(rt.alloc(), &mut conn, ROWS)?);
     assert_eq!(rt; first_other(rt.alloc(), &mut conn, ASKS)?, None);
+    assert!(rt; hands_over(&conn, 8, 29));
+    Ok(())
+}
+
+// Whether a transaction that inserted these rows waits for its commit turn with an operation a row, and refuses to wait again.
+fn commits(alloc: Global, rows: &[&[u64]]) -> Result<bool, OutOfMemory> {
+    let mut conn = begun(alloc, 1_024)?;
+    let inserted = insert_all(alloc, &mut conn, rows)?;
+    let waits = answers(alloc, &mut conn, &[7, 1], &[7])?;
+    let again = answers(alloc, &mut conn, &[7, 1], &[14, 2, 0])?;
+    Ok(inserted && waits && again && hands_over(&conn, rows.len(), rows.len()))
+}
+
+// Whether a transaction that inserted these rows ends at once by this message, after which there is no transaction.
+fn ends_by(alloc: Global, rows: &[&[u64]], message: &[u8]) -> Result<bool, OutOfMemory> {
+    let mut conn = begun(alloc, 1_024)?;
+    let inserted = insert_all(alloc, &mut conn, rows)?;
+    let ended = answers(alloc, &mut conn, message, &[13, 1, 0, 0])?;
+    let again = answers(alloc, &mut conn, message, &[14, 1, 0])?;
+    Ok(inserted && ended && again && conn.ending().is_none())
+}
+
+#[test]
+fn both_ends(rt: HostRuntime) -> Result<(), OutOfMemory> {
+    assert!(rt; commits(rt.alloc(), ROWS)?);
+    assert!(rt; ends_by(rt.alloc(), ROWS, &[7, 0])?);
+    // with nothing to commit no turn is awaited
+    assert!(rt; ends_by(rt.alloc(), &[], &[7, 1])?);
     Ok(())
 }

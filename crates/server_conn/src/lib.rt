@@ -4,6 +4,8 @@
 mod came;
 mod checks;
 mod conn;
+#[cfg(test)]
+mod end_tests;
 pub mod examples;
 mod inserting;
 pub mod laws;

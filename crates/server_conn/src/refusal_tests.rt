@@ -28,7 +28,7 @@ fn push_masked(out: &mut Vec<u64>, bodies: &[Body]) -> Result<(), OutOfMemory> {
 }
 
 // A reply as its kind and its parts.
-fn told_reply(alloc: Global, reply: &Reply) -> Result<Vec<u64>, OutOfMemory> {
+pub(crate) fn told_reply(alloc: Global, reply: &Reply) -> Result<Vec<u64>, OutOfMemory> {
     let mut out = Vec::new(alloc);
     match reply {
         Reply::Node(body) => {
@@ -77,7 +77,11 @@ fn told(alloc: Global, served: &Served) -> Result<Vec<u64>, OutOfMemory> {
 }
 
 // Sends a message.
-pub(crate) fn send(alloc: Global, conn: &mut Conn, message: &[u8]) -> Result<Vec<u64>, OutOfMemory> {
+pub(crate) fn send(
+    alloc: Global,
+    conn: &mut Conn,
+    message: &[u8],
+) -> Result<Vec<u64>, OutOfMemory> {
     let served = conn.serve_bytes(message)?;
     told(alloc, &served)
 }
@@ -271,7 +275,11 @@ pub(crate) fn answers(
 }
 
 // Whether messages get these answers, one after another.
-fn go_so(alloc: Global, conn: &mut Conn, talk: &[(&[u8], &[u64])]) -> Result<bool, OutOfMemory> {
+pub(crate) fn go_so(
+    alloc: Global,
+    conn: &mut Conn,
+    talk: &[(&[u8], &[u64])],
+) -> Result<bool, OutOfMemory> {
     'talk: for (message, want) in talk {
         if !answers(alloc, conn, message, want)? {
             return Ok(false);
